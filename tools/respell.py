@@ -1,13 +1,15 @@
 #!/usr/bin/env python3
 """Spells the definitions and lemmas of this repository in snake case: wordCase and dashed-words become word_case and dashed_words.
 
-usage: respell.py [--check] [FOLDER]
+usage: respell.py [--check] [--table FILE] [--by FILE] [FOLDER]
 
 It reads what the .antt files below FOLDER/crates declare, proofs of functions (Proof.antt, Answers.antt, Invariants.antt) apart, and rewrites these words in all
 .antt files, in the clauses and `ghost use` items of .rt files and in the lines of must-fail edits. In comments only words between backticks turn. A word stays in a file that has
 it from a library. A word whose new spelling stands in a file beside the old one gets `_lem` at its end. --check writes nothing and prints each new name.
+--table writes the table of names to FILE, and --by takes it from there.
 """
 import collections
+import json
 import os
 import re
 import sys
@@ -16,7 +18,7 @@ WORD = r'[^\s(){}.;,@"«»]+'
 TOKEN = re.compile(WORD)
 OWN = re.compile(r"[a-z][A-Za-z0-9'-]*$")
 OF_FUNCTION = ("Proof.antt", "Answers.antt", "Invariants.antt")
-HEAD = re.compile(r"(?:(?:abbrev|unfoldable|pub|opaque|private)\s+)*(data|record|ruleset|mutual)?\s*(" + WORD + r")((?: \{[^{}]*\}| \([^()]*\))*) :(?:\s|$)")
+HEAD = re.compile(r"\s*(?:(?:abbrev|unfoldable|pub|opaque|private)\s+)*(data|record|ruleset|mutual)?\s*(" + WORD + r")((?:\s+[({].*?[)}])*)\s+:(?:\s|$)")
 FIELD = re.compile(r"\s+(?:pub )?(" + WORD + r") :(?:\s|$)")
 USE = re.compile(r"\b(?:ghost )?use ([^\s;{]+?)\.?(\{[^}]*\})?(?: as (\S+))?;?\s*$", re.M)
 COMMENT = re.compile(r"(?<![^\s(){},;])--[^\n]*")
@@ -59,8 +61,10 @@ def declared(text):
                 fields.add(m[1])
                 if inside == "record":
                     parts.add(m[1])
-            elif m and re.match(r"  (?=\S)", line):
-                names.add(m[1])
+            else:
+                m = HEAD.match(line)
+                if m:
+                    names.add(m[2])
     return names, fields, parts
 
 
@@ -125,7 +129,7 @@ def part(text, start, end, one):
 
 def main(argv):
     check = "--check" in argv
-    root = ([a for a in argv if not a.startswith("-")] or ["."])[0]
+    root = ([a for i, a in enumerate(argv) if not a.startswith("-") and argv[i - 1 : i] not in (["--table"], ["--by"])] or ["."])[0]
     texts = {p: read(p) for p in files(root)}
     names, fields, parts = set(), set(), set()
     for p, t in texts.items():
@@ -151,6 +155,13 @@ def main(argv):
         table[n] = snake(n) + ("_lem" if n in clash else "")
         taken[table[n]].append(n)
     table.update({n: n + "_lem" for n in moved})
+    if "--table" in argv:
+        with open(argv[argv.index("--table") + 1], "w", encoding="utf-8") as f:
+            json.dump([table, sorted(fields)], f, ensure_ascii=False)
+    if "--by" in argv:
+        with open(argv[argv.index("--by") + 1], encoding="utf-8") as f:
+            table, fields = json.load(f)
+            fields = set(fields)
     for new, from_ in sorted(taken.items()):
         if len(from_) > 1:
             print("look: two names fall together:", new, from_)

@@ -63,11 +63,11 @@ module _ (s : List ℕ) (root : ℕ) (bytes : List ℕ) where
     tree_stays l (value t) h = refused_not {n = 0} {r = r} (sym h)
     tree_stays l (refused q) h = cc
 
-    language-stays : (m : Result Language) → checked (m >>= λ l. tree_of l root bytes) ≡ Refused r
+    language_stays : (m : Result Language) → checked (m >>= λ l. tree_of l root bytes) ≡ Refused r
         → (m >>= λ l. tree_of l root bytes >>= f l) ≡ refused r
-    language-stays (value l) h = tree_stays l (tree_of l root bytes) h
-    language-stays (refused q) h = cc
+    language_stays (value l) h = tree_stays l (tree_of l root bytes) h
+    language_stays (refused q) h = cc
 
-    pub refused-tree : check_tree s root bytes ≡ Refused r → (language_of s >>= λ l. tree_of l root bytes >>= f l) ≡ refused r
+    pub refused_tree : check_tree s root bytes ≡ Refused r → (language_of s >>= λ l. tree_of l root bytes >>= f l) ≡ refused r
     unfolding check_tree
-    refused-tree h = language-stays (language_of s) h
+    refused_tree h = language_stays (language_of s) h

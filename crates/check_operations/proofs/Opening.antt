@@ -118,9 +118,9 @@ module _ (s : List ℕ) (root : ℕ) {o : Outcome} (eo : o ≡ check_language s)
     in_is : x ≡ is_in (accepts s eo accepted).language root
     in_is = ex _ (accepts s eo accepted).entries
 
-    pub open-out : x ≡ false → Refused Why.UnknownRoot ≡ checked (rooted_of s root)
+    pub open_out : x ≡ false → Refused Why.UnknownRoot ≡ checked (rooted_of s root)
     unfolding rooted_of
-    open-out h = let a = accepts s eo accepted in let i : is_in a.language root ≡ false = sym in_is ∙ h in rw (a.is, i)
+    open_out h = let a = accepts s eo accepted in let i : is_in a.language root ≡ false = sym in_is ∙ h in rw (a.is, i)
 
     pub open_in : x ≡ true → o ≡ checked (rooted_of s root)
     unfolding rooted_of check_language
@@ -138,11 +138,11 @@ module _ (s : List ℕ) (root : ℕ) where
   refused_value_of (refused q) e h = cc
 
   module _ {o : Outcome} (eo : o ≡ checked (rooted_of s root)) where
-    pub opened-language : {n : ℕ} → o ≡ Accepted n → (l : Language) × (rooted_of s root ≡ value l)
-    opened-language h = accepted_value (rooted_of s root) refl (sym eo ∙ h)
+    pub opened_language : {n : ℕ} → o ≡ Accepted n → (l : Language) × (rooted_of s root ≡ value l)
+    opened_language h = accepted_value (rooted_of s root) refl (sym eo ∙ h)
 
-    pub opened-not : {r : Reason} → o ≡ Refused r → rooted_of s root ≡ refused r
-    opened-not h = refused_value_of (rooted_of s root) refl (sym eo ∙ h)
+    pub opened_not : {r : Reason} → o ≡ Refused r → rooted_of s root ≡ refused r
+    opened_not h = refused_value_of (rooted_of s root) refl (sym eo ∙ h)
 
 -- An operation that asks for the root once the language is there, and one that reads a tree.
 module _ {A : Type 0} (root : ℕ) (l : Language) where

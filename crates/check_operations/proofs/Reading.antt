@@ -70,11 +70,11 @@ module _ (s index : List ℕ) (l : Language) (z : Indexed index s l) (k : ℕ) (
       ap (λ (j : ℕ). some (slice j (q + 3 + pair_at s (q + 1)) s)) from ∙ ap (λ (j : ℕ). some (slice (suc q + 4) j s)) stop
 
   module _ (p : ℕ) (byte : p < 256) (place : ℕ) (found : place ≡ get_or index (production_key k p) 0) where
-    pub production-none : place ≡ 0 → arguments_of l k p ≡ none
-    production-none h = z.arguments k p kind byte ∙ ap (arguments_before s) (sym found ∙ h)
+    pub production_none : place ≡ 0 → arguments_of l k p ≡ none
+    production_none h = z.arguments k p kind byte ∙ ap (arguments_before s) (sym found ∙ h)
 
-    pub production-known : {n : ℕ} → (place ≡ 0 → ⊥) → n ≡ pair_at s place → arguments_of l k p ≡ some (slice (place + 4) (place + 2 + n) s)
-    production-known {n} h e =
+    pub production_known : {n : ℕ} → (place ≡ 0 → ⊥) → n ≡ pair_at s place → arguments_of l k p ≡ some (slice (place + 4) (place + 2 + n) s)
+    production_known {n} h e =
         z.arguments k p kind byte ∙ (ap (arguments_before s) (sym found) ∙ (arguments_in place h ∙ ap (λ (j : ℕ). some (slice (place + 4) (place + 2 + j) s)) (sym e)))
 
 -- One level of a tree.
@@ -119,7 +119,7 @@ module _ (s index : List ℕ) (l : Language) (z : Indexed index s l) (k : ℕ) (
       (λ t.
       let i : at < length b = leb-false _ _ t in
       let y : place ≡ get_or index (production_key k (get_or b at 0)) 0 = cc (eq-eqb class 0 no) in
-      let w = production-none s index l z k kind (get_or b at 0) (bytes at) place y p in
+      let w = production_none s index l z k kind (get_or b at 0) (bytes at) place y p in
       cc (front b at i))
 
 pub two : (b : List ℕ) (at : ℕ) → 2 ≤ length b - at → drop at b ≡ get_or b at 0 ∷ get_or b (at + 1) 0 ∷ drop (at + 2) b
@@ -185,11 +185,11 @@ module _ (s index : List ℕ) (b : List ℕ) (k at : ℕ) (kind : k < 32) (bytes
     at_place z = name_in index s z refl kind (bytes at) (found_name pos).1 pos
 
     module _ {n : ℕ} (en : n ≡ pair_at s place) where
-      pub at-kinds : Sound index s → KindsIn s (place + 4) (place + 2 + n)
-      at-kinds z = kinds_in index s z refl kind (bytes at) (found_name pos).1 pos en
+      pub at_kinds : Sound index s → KindsIn s (place + 4) (place + 2 + n)
+      at_kinds z = kinds_in index s z refl kind (bytes at) (found_name pos).1 pos en
 
-      pub at-known : (l : Language) → Indexed index s l → arguments_of l k (get_or b at 0) ≡ some (slice (place + 4) (place + 2 + n) s)
-      at-known l z = production-known s index l z k kind (get_or b at 0) (bytes at) place (found_name pos).1 pos en
+      pub at_known : (l : Language) → Indexed index s l → arguments_of l k (get_or b at 0) ≡ some (slice (place + 4) (place + 2 + n) s)
+      at_known l z = production_known s index l z k kind (get_or b at 0) (bytes at) place (found_name pos).1 pos en
 
       pub at_reads : (levels : ℕ) → (levels ≡ 0 → ⊥) → (l : Language) → Indexed index s l
           → read tree l [] levels k (drop at b)
@@ -198,7 +198,7 @@ module _ (s index : List ℕ) (b : List ℕ) (k at : ℕ) (kind : k < 32) (bytes
       at_reads levels some_level l z =
           level_read s index l z k kind b at class_is (found_class pos) levels some_level
           ∙ (ap (read_node (read tree l [] (levels - 1)) l k) (front b at at_name)
-          ∙ ap (λ (o : Option (List ℕ)). read_operands (read tree l [] (levels - 1)) k (get_or b at 0) o (drop (at + 1) b)) (at-known l z))
+          ∙ ap (λ (o : Option (List ℕ)). read_operands (read tree l [] (levels - 1)) k (get_or b at 0) o (drop (at + 1) b)) (at_known l z))
 
   module _ (l : Language) (z : Indexed index s l) (levels : ℕ) (a : Code) (rest : List ℕ) (e : read tree l [] levels k (drop at b) ≡ done a rest) where
     no_production : (n : ℕ) → levels ≡ n → class ≡ 0 → place ≡ 0 → ReadToken b at a rest
@@ -216,13 +216,13 @@ module _ (s index : List ℕ) (b : List ℕ) (k at : ℕ) (kind : k < 32) (bytes
         token_read b at a rest _ (sym (read_class l k (drop at b) levels _ c) ∙ e))
 
     -- A production is a level.
-    pub read-deep : {A : Type 0} → (place ≡ 0 → ⊥) → levels ≡ 0 → A
-    read-deep pos h = past_not l k (drop at b) levels h (class_none s index l z k kind class class_is (found_class pos)) e
+    pub read_deep : {A : Type 0} → (place ≡ 0 → ⊥) → levels ≡ 0 → A
+    read_deep pos h = past_not l k (drop at b) levels h (class_none s index l z k kind class class_is (found_class pos)) e
 
     module _ {n : ℕ} (pos : place ≡ 0 → ⊥) (some_level : levels ≡ 0 → ⊥) (en : n ≡ pair_at s place) where
       -- Where a production was found, it was read with its operands.
-      pub read-production : ReadNode s l k b at levels (place + 4) (place + 2 + n) a rest
-      read-production =
+      pub read_production : ReadNode s l k b at levels (place + 4) (place + 2 + n) a rest
+      read_production =
           let x = then_done (read_all (read tree l [] (levels - 1)) (slice (place + 4) (place + 2 + n) s) (drop (at + 1) b)) _ a rest
           (sym (at_reads pos en levels some_level l z) ∙ e) in
           let w = same_done (node k (get_or b at 0) x.0) a x.1 rest x.3 in
@@ -230,5 +230,5 @@ module _ (s index : List ℕ) (b : List ℕ) (k at : ℕ) (kind : k < 32) (bytes
             operands = x.0;
             reads = x.2 ∙ ap (done x.0) w.1;
             is = sym w.0;
-            known = at-known pos en l z;
+            known = at_known pos en l z;
           }

@@ -30,7 +30,7 @@ use Rattle.format_translation.specs.Inner.Pieces.{Pieces}
 use Rattle.check_operations.specs.Inner.Chains.{in_order}
 use Rattle.format_translation.proofs.Codec.{translation_parts}
 use Rattle.format_translation.proofs.Found.{cut, cut_is, rest_is, parted}
-use Rattle.format_translation.proofs.Cuts.{parted_pieces, source_cut, target-cut}
+use Rattle.format_translation.proofs.Cuts.{parted_pieces, source_cut, target_cut}
 
 -- check_parts
 module _ (f : Translation) (x : Bool) (ex : x ≡ all_rising f) where
@@ -41,14 +41,14 @@ module _ (f : Translation) (x : Bool) (ex : x ≡ all_rising f) where
   order_none h e = let d : in_order f ≡ refused Why.OutOfOrder = cc in refused_value (sym d ∙ e)
 
   module _ (xt : x ≡ true) (y : Bool) (ey : y ≡ (clashes f.source f.source || clashes f.target f.target)) where
-    pub clash-refused : {o : Outcome} → y ≡ true → o ≡ Refused Why.ClassIsResult → o ≡ checked (in_order f)
-    clash-refused h i = cc
+    pub clash_refused : {o : Outcome} → y ≡ true → o ≡ Refused Why.ClassIsResult → o ≡ checked (in_order f)
+    clash_refused h i = cc
 
-    pub clash-none : {A : Type 0} → y ≡ true → in_order f ≡ value f → A
-    clash-none h e = let d : in_order f ≡ refused Why.ClassIsResult = cc in refused_value (sym d ∙ e)
+    pub clash_none : {A : Type 0} → y ≡ true → in_order f ≡ value f → A
+    clash_none h e = let d : in_order f ≡ refused Why.ClassIsResult = cc in refused_value (sym d ∙ e)
 
-    pub formed-next : {o : Outcome} → y ≡ false → o ≡ checked (well_formed f) → o ≡ checked (in_order f)
-    formed-next h i = cc
+    pub formed_next : {o : Outcome} → y ≡ false → o ≡ checked (well_formed f) → o ≡ checked (in_order f)
+    formed_next h i = cc
 
 -- check_kept
 module _ (s : List ℕ) (over : Bool) (eo : over ≡ (ltb translation_limit (length s) || has_over is_language_tag language_limit s)) where
@@ -61,24 +61,24 @@ module _ (s : List ℕ) (over : Bool) (eo : over ≡ (ltb translation_limit (len
   over_none h f e = let d : translation_of s ≡ refused Why.TooLong = cc in refused_value (sym d ∙ e)
 
   module _ (within : over ≡ false) where
-    chain-of : translation_of s ≡ (whole (parts_of s) >>= in_order)
+    chain_of : translation_of s ≡ (whole (parts_of s) >>= in_order)
     unfolding translation_of
-    chain-of = cc
+    chain_of = cc
 
     chain : check_translation s ≡ checked (whole (parts_of s) >>= in_order)
     unfolding check_translation
-    chain = ap checked chain-of
+    chain = ap checked chain_of
 
     module _ (there : Bool) (et : there ≡ is_some (parts_of s)) where
       absent : (p : Option Translation) → parts_of s ≡ p → is_some p ≡ false → checked (whole (parts_of s) >>= in_order) ≡ Refused Why.BrokenField
       absent none e h = rw e
       absent (some f) e h = false_true (sym h)
 
-      pub broken-refused : {o : Outcome} → there ≡ false → o ≡ Refused Why.BrokenField → o ≡ check_translation s
-      broken-refused h i = i ∙ sym (chain ∙ absent (parts_of s) refl (sym et ∙ h))
+      pub broken_refused : {o : Outcome} → there ≡ false → o ≡ Refused Why.BrokenField → o ≡ check_translation s
+      broken_refused h i = i ∙ sym (chain ∙ absent (parts_of s) refl (sym et ∙ h))
 
-      pub broken-none : {A : Type 0} → there ≡ false → (f : Translation) → translation_of s ≡ value f → A
-      broken-none h f e = false_true (sym h ∙ (et ∙ ap is_some (translation_parts s f e)))
+      pub broken_none : {A : Type 0} → there ≡ false → (f : Translation) → translation_of s ≡ value f → A
+      broken_none h f e = false_true (sym h ∙ (et ∙ ap is_some (translation_parts s f e)))
 
       pub parts_there : there ≡ true → (f : Translation) × (parts_of s ≡ some f)
       parts_there h = some_is (parts_of s) (sym et ∙ h)
@@ -98,16 +98,16 @@ module _ (s : List ℕ) (over : Bool) (eo : over ≡ (ltb translation_limit (len
           rw (cut_is s 3 a w.source_past (omega arith), cut_is s (a + 3) b j k, rest_is s b)
           (parted_pieces s a b f w limits.1 limits.0)
 
-      pub pieces-checked : {o : Outcome} → o ≡ checked (in_order f) → o ≡ check_translation s
-      pieces-checked h = h ∙ sym (chain ∙ rw e)
+      pub pieces_checked : {o : Outcome} → o ≡ checked (in_order f) → o ≡ check_translation s
+      pieces_checked h = h ∙ sym (chain ∙ rw e)
 
     -- what was made for them, where the translation is accepted
     module _ (a : ℕ) (ea : a ≡ field_end s 0) (b : ℕ) (eb : b ≡ field_end s a) (x u : List ℕ)
         (made : (f : Translation) → Pieces (cut s 3 a) (cut s (a + 3) b) (cut s b (length s)) f → in_order f ≡ value f
         → Built 0x11 (cut s 3 a) x 0 × Built 0x11 (cut s (a + 3) b) x 8224 × Mapped u f.body) where
-      pub pieces-made : (f : Translation) → translation_of s ≡ value f → Built 0x11 (source_in s) x 0 × Built 0x11 (target_in s) x 8224 × Mapped u f.body
-      pieces-made f e =
+      pub pieces_made : (f : Translation) → translation_of s ≡ value f → Built 0x11 (source_in s) x 0 × Built 0x11 (target_in s) x 8224 × Mapped u f.body
+      pieces_made f e =
           let p : parts_of s ≡ some f = translation_parts s f e in
-          let v : in_order f ≡ value f = sym (chain-of ∙ rw p) ∙ e in
+          let v : in_order f ≡ value f = sym (chain_of ∙ rw p) ∙ e in
           let m = made f (pieces a ea b eb f p) v in
-          (rw (← source_cut s (f, e) a ea) m.0, rw (← target-cut s (f, e) a ea b eb) m.1, m.2)
+          (rw (← source_cut s (f, e) a ea) m.0, rw (← target_cut s (f, e) a ea b eb) m.1, m.2)

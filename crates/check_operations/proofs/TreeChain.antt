@@ -26,7 +26,7 @@ use Rattle.tree_reader.specs.Inner.Index.{Indexed}
 use Rattle.tree_reader.proofs.Meaning.{done_of, deep_of, broken_of}
 use Rattle.check_operations.specs.Inner.Opening.{rooted_of, Opened}
 use Rattle.check_operations.specs.Inner.Chains.{whole_at}
-use Rattle.check_operations.proofs.Opening.{opened-not, rooted_tree}
+use Rattle.check_operations.proofs.Opening.{opened_not, rooted_tree}
 pub use Rattle.check_operations.proofs.Opening.{Accepts, accepts}
 
 -- whole_tree
@@ -68,7 +68,7 @@ module _ (s : List ℕ) (root : ℕ) (b : List ℕ) {out : Outcome} where
   pub tree_refused : {o : Outcome} {r : Reason} → o ≡ checked (rooted_of s root) → o ≡ Refused r → out ≡ Refused r → out ≡ check_tree s root b
   unfolding check_tree
   tree_refused eo h i =
-      i ∙ sym (ap checked (rooted_tree s root b ∙ ap (λ (m : Result Language). m >>= λ l. whole_tree (Meant.read Meant.tree l [] tree_levels root b)) (opened-not s root eo h)))
+      i ∙ sym (ap checked (rooted_tree s root b ∙ ap (λ (m : Result Language). m >>= λ l. whole_tree (Meant.read Meant.tree l [] tree_levels root b)) (opened_not s root eo h)))
 
   pub tree_read_lem : (l : Language) → rooted_of s root ≡ value l → (f : Read) → rest_at b f ≡ rest_of (Meant.read Meant.tree l [] tree_levels root b) → EndsBy (length b) f
       → out ≡ whole_at f (length b) → out ≡ check_tree s root b

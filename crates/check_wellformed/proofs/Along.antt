@@ -71,8 +71,8 @@ module _ (s : List ℕ) (r : RisingEntries s) (key q : ℕ) (z : Skipped 0x11 ke
     whole_here : entry_whole s q ≡ true
     whole_here = (every_here (entry_whole s) s q whole_from here).0
 
-    pub place-long : q + 4 < length s
-    place-long = (entry_kind s q whole_here).0
+    pub place_long : q + 4 < length s
+    place_long = (entry_kind s q whole_here).0
 
     module _ (k : ℕ) (ek : k ≡ key_at 0x11 s q) where
       pub place_here : k ≡ key → q + 1 ≡ get_or (index_of s) key 0
@@ -146,46 +146,46 @@ module _ (s : List ℕ) (from : ℕ) (b : List ℕ) (to : ℕ) (z : Along s from
   along_long h = skip_rest 0x11 z.least s 0 from z.behind (long_at s) h
 
   module _ (here : to < length b) (key : ℕ) (k : KeyOf b to key) (r : ℕ) (x : Skipped 0x11 key s from r) where
-    key-least : z.least ≤ key
-    key-least = let g = rw (places_next b to here) at z.rises in omega (arith, g.0, k.near)
+    key_least : z.least ≤ key
+    key_least = let g = rw (places_next b to here) at z.rises in omega (arith, g.0, k.near)
 
-    along-here : Skipped 0x11 key s 0 r
-    along-here =
+    along_here : Skipped 0x11 key s 0 r
+    along_here =
         let y = z.behind in
         record {
           before = y.before ++ x.before;
           are = y.are ∙ (ap (λ (l : List ℕ). y.before ++ l) x.are ∙ sym (append_assoc y.before x.before (places_from s r)));
           below = mem_all (λ v. ltb (order_at 0x11 s v) key) (y.before ++ x.before) (λ v m.
               ⊎_elim
-              (λ n. lt-ltb (order_at 0x11 s v) key (omega (arith, before_below 0x11 z.least s 0 from y v n, key-least)))
+              (λ n. lt-ltb (order_at 0x11 s v) key (omega (arith, before_below 0x11 z.least s 0 from y v n, key_least)))
               (λ n. lt-ltb (order_at 0x11 s v) key (before_below 0x11 key s from r x v n))
               (append_cases v y.before x.before m));
           stops = x.stops;
           inside = λ w i. x.inside (skip_rest 0x11 z.least s 0 from y (is_whole s) w) (y.inside w i);
         }
 
-    along-next : (e : ℕ) → e ≡ field_end b to → Along s r b e
-    along-next e ee =
+    along_next : (e : ℕ) → e ≡ field_end b to → Along s r b e
+    along_next e ee =
         let g = rw (places_next b to here) at z.rises in
         record {
           least = key;
-          behind = along-here;
+          behind = along_here;
           rises = rw ee (from_weaken (order_at 0x22 b) (places_from b (field_end b to)) (omega (arith, k.from)) g.1);
         }
 
   -- codes_typed
   module _ (here : to < length b) (w : is_clause_at b to ≡ true) (key : ℕ) (ek : key ≡ key_at 0x22 b to) (r : ℕ) (x : Skipped 0x11 key s from r) where
-    pub clause-beside : Skipped 0x11 (key_at 0x22 b to) s 0 r
-    clause-beside = skipped_by s r key (key_at 0x22 b to) (sym ek) (along-here here key (key_clause b to w key ek) r x)
+    pub clause_beside : Skipped 0x11 (key_at 0x22 b to) s 0 r
+    clause_beside = skipped_by s r key (key_at 0x22 b to) (sym ek) (along_here here key (key_clause b to w key ek) r x)
 
-    pub clause-next : (e : ℕ) → e ≡ field_end b to → Along s r b e
-    clause-next = along-next here key (key_clause b to w key ek) r x
+    pub clause_next : (e : ℕ) → e ≡ field_end b to → Along s r b e
+    clause_next = along_next here key (key_clause b to w key ek) r x
 
   -- mappings_fit
   module _ (bytes : (i : ℕ) → get_or b i 0 < 256) (here : to < length b) (w : item_whole b to ≡ true) (t : is_clause_tag (get_or b to 0) ≡ false)
       (key : ℕ) (ek : key ≡ get_or b (to + 3) 0) (r : ℕ) (x : Skipped 0x11 key s from r) where
-    pub mapping-beside : Skipped 0x11 (get_or b (to + 3) 0) s 0 r
-    mapping-beside = skipped_by s r key (get_or b (to + 3) 0) (sym ek) (along-here here key (key_mapping b bytes to w t key ek) r x)
+    pub mapping_beside : Skipped 0x11 (get_or b (to + 3) 0) s 0 r
+    mapping_beside = skipped_by s r key (get_or b (to + 3) 0) (sym ek) (along_here here key (key_mapping b bytes to w t key ek) r x)
 
-    pub mapping-next : (e : ℕ) → e ≡ field_end b to → Along s r b e
-    mapping-next = along-next here key (key_mapping b bytes to w t key ek) r x
+    pub mapping_next : (e : ℕ) → e ≡ field_end b to → Along s r b e
+    mapping_next = along_next here key (key_mapping b bytes to w t key ek) r x

@@ -116,13 +116,13 @@ module _ (is s : List ℕ) (l : Language) (z : Indexed is s l) (bytes : (i : ℕ
             let d : field_end s x ≡ stop = sym (e ∙ ap (field_end s) i) in
             rw (d, j) refl
 
-    pub few-arguments : length (slice (place + 4) stop s) ≤ 8
-    few-arguments =
+    pub few_arguments : length (slice (place + 4) stop s) ≤ 8
+    few_arguments =
         let e : arguments_of l k n ≡ some (slice (place + 4) stop s) = arguments_are ∙ before_is in
         (within s bytes l z.entries (production k n (slice (place + 4) stop s)) (arguments_mem l k n _ e)).2
 
-    pub arguments-value : Option.get_or (arguments_before s place) [] ≡ slice (place + 4) stop s
-    arguments-value = rw before_is
+    pub arguments_value : Option.get_or (arguments_before s place) [] ≡ slice (place + 4) stop s
+    arguments_value = rw before_is
 
   pub put_none : place ≡ 0 → (u : List ℕ) → length u ≡ 8200 → Behind u u (Option.get_or (arguments_before s (get_or is key 0)) []) 8192
   put_none h u e =
@@ -134,24 +134,24 @@ module _ (is s : List ℕ) (l : Language) (z : Indexed is s l) (bytes : (i : ℕ
     unfolding field_end
     stop_is = let i : place - 1 + 1 ≡ place = omega arith in rw i (omega (arith, el))
 
-    found-is : Option.get_or (arguments_before s (get_or is key 0)) [] ≡ slice first last s
-    found-is = rw (← ep, ef) (arguments-value last stop_is there)
+    found_is : Option.get_or (arguments_before s (get_or is key 0)) [] ≡ slice first last s
+    found_is = rw (← ep, ef) (arguments_value last stop_is there)
 
-    pub put-empty : last ≤ first → (u : List ℕ) → length u ≡ 8200 → Behind u u (Option.get_or (arguments_before s (get_or is key 0)) []) 8192
-    put-empty h u e =
+    pub put_empty : last ≤ first → (u : List ℕ) → length u ≡ 8200 → Behind u u (Option.get_or (arguments_before s (get_or is key 0)) []) 8192
+    put_empty h u e =
         let i : Option.get_or (arguments_before s (get_or is key 0)) [] ≡ [] =
-        found-is ∙ drop_of_length-le (take last s) {i = first} (simp length-take (omega arith)) in
+        found_is ∙ drop_of_length-le (take last s) {i = first} (simp length-take (omega arith)) in
         record { bytes = rw i (sym (append-nil (take 8192 u))); fits = omega arith; room = e; kept = refl }
 
-    pub put-inside : first < last → Inside s first last
-    put-inside h =
+    pub put_inside : first < last → Inside s first last
+    put_inside h =
         let i : 0 < get_or is (production_key k n) 0 = rw (← place_is) (omega arith) in
         let w : KindsIn s (place + 4) (place + 2 + pair_at s place) = rw place_is (z.sound.operands k n hk hn i) in
         let v = w (last - 1) (omega (arith, ef, el)) (omega (arith, ef, el)) in
         record { rise = omega arith; fits = omega (arith, v.0) }
 
-    pub never-full : (u : List ℕ) → length u ≡ 8200 → length u < 8192 + length (slice first last s) → ⊥
-    never-full u e h = let k : length (slice first last s) ≤ 8 = rw ef (few-arguments last stop_is there) in omega (arith, k)
+    pub never_full : (u : List ℕ) → length u ≡ 8200 → length u < 8192 + length (slice first last s) → ⊥
+    never_full u e h = let k : length (slice first last s) ≤ 8 = rw ef (few_arguments last stop_is there) in omega (arith, k)
 
     pub put_behind : (u u' : List ℕ) (r : ℕ) → length u ≡ 8200 → Written (slice first last s) u u' 8192 r
         → Behind u u' (Option.get_or (arguments_before s (get_or is key 0)) []) r
@@ -163,7 +163,7 @@ module _ (is s : List ℕ) (l : Language) (z : Indexed is s l) (bytes : (i : ℕ
         let o : u' ≡ take 8192 u ++ (v ++ drop (8192 + length v) u) = w.bytes ∙ opened u 8192 v in
         let q : u' ≡ (take 8192 u ++ v) ++ drop (8192 + length v) u = o ∙ sym (append_assoc (take 8192 u) v (drop (8192 + length v) u)) in
         record {
-          bytes = rw (found-is, q) (take_at (take 8192 u ++ v) (drop (8192 + length v) u) r i);
+          bytes = rw (found_is, q) (take_at (take 8192 u ++ v) (drop (8192 + length v) u) r i);
           fits = omega (arith, w.fits);
           room = ap length w.bytes ∙ (length_spliced u 8192 v fits ∙ e);
           kept = rw o (take_at (take 8192 u) (v ++ drop (8192 + length v) u) 8192 l);
@@ -260,8 +260,8 @@ module _ (s t it b u : List ℕ) (f : Translation) (z : Ready s t it b u f)
         let d : drop 8192 (take r u') ≡ arguments = rw bytes_are (drop_at (take 8192 u) arguments 8192 front_long) in
         rw d (maps_same b body_bytes f.body z.body (take r u') (mapped_kept u (take r u') f.body e z.uses) arguments (arguments_kinds k n))
 
-    pub ready-still : Ready s t it b u' f
-    ready-still = record {
+    pub ready_still : Ready s t it b u' f
+    ready_still = record {
       source = z.source;
       short = z.short;
       target = z.target;
@@ -273,22 +273,22 @@ module _ (s t it b u : List ℕ) (f : Translation) (z : Ready s t it b u f)
 
   module _ (p : ℕ) (c : ClauseAt b p) (result number kind : ℕ) (er : result ≡ get_or b (p + 3) 0) (en : number ≡ clause_number b p)
       (ek : kind ≡ mapped_by u result number) where
-    kind-mapped : kind ≡ mapped f.body (get_or b (p + 3) 0) (clause_number b p)
-    kind-mapped = ek ∙ rw (er, en) (mapped_is u f.body z.uses (get_or b (p + 3) 0) (clause_number b p) c.result c.number)
+    kind_mapped : kind ≡ mapped f.body (get_or b (p + 3) 0) (clause_number b p)
+    kind_mapped = ek ∙ rw (er, en) (mapped_is u f.body z.uses (get_or b (p + 3) 0) (clause_number b p) c.result c.number)
 
     pub kind_below : kind < 32
-    kind_below = rw kind-mapped (mapped_below b body_bytes f.body z.body (get_or b (p + 3) 0) (clause_number b p))
+    kind_below = rw kind_mapped (mapped_below b body_bytes f.body z.body (get_or b (p + 3) 0) (clause_number b p))
 
     -- What is read for a clause says whether it fits.
-    pub code_fits : (key : ℕ) → key ≡ key_at 0x22 b p → (u' : List ℕ) (r : ℕ) → Behind u u' (Option.get_or (arguments_before s (get_or (index_of s) key 0)) []) r
+    pub code_fits_lem : (key : ℕ) → key ≡ key_at 0x22 b p → (u' : List ℕ) (r : ℕ) → Behind u u' (Option.get_or (arguments_before s (get_or (index_of s) key 0)) []) r
         → (start e : ℕ) → start ≡ code_start b p → e ≡ field_end b p
         → (x : Bool) → x ≡ is_some (whole_code (Meant.read Meant.code f.target (uses_in (take r u')) 16 kind (slice start e b)))
         → (x ≡ code_fits f (item_at b p)) × Ready s t it b u' f
     unfolding code_fits read_clause
-    code_fits key eq u' r w start e es ee x ex =
+    code_fits_lem key eq u' r w start e es ee x ex =
         let k : key ≡ production_key (get_or b (p + 3) 0) (get_or b (p + 4) 0) = eq ∙ clause_key b p c in
         let v = uses_are u' r key (get_or b (p + 3) 0) (get_or b (p + 4) 0) c.result (body_bytes (p + 4)) k w in
-        (rw (c.is, ← v, ← kind-mapped, ← es, ← ee) ex, ready-still u' r key (get_or b (p + 3) 0) (get_or b (p + 4) 0) c.result (body_bytes (p + 4)) k w)
+        (rw (c.is, ← v, ← kind_mapped, ← es, ← ee) ex, ready_still u' r key (get_or b (p + 3) 0) (get_or b (p + 4) 0) c.result (body_bytes (p + 4)) k w)
 
 -- code_reads
 module _ (b : List ℕ) (p e : ℕ) (past : p ≤ e) (ends : e ≤ length b) (l : Language) (uses : Uses) (kind : ℕ) where
@@ -300,8 +300,8 @@ module _ (b : List ℕ) (p e : ℕ) (past : p ≤ e) (ends : e ≤ length b) (l 
       ex ∙ (ap (ends_at r) (sym n) ∙ (ends_is (cut b p e) (Meant.read Meant.code l uses 16 kind (cut b p e)) r h w
       ∙ ap (λ (u : List ℕ). is_some (whole_code (Meant.read Meant.code l uses 16 kind u))) (cut_is b p e past ends)))
     where
-      ends-end : (u : List ℕ) (g : Meant.Read C.Code) (j : ℕ) → rest_at u (End j) ≡ rest_of g → j ≤ length u → eqb j (length u) ≡ is_some (whole_code g)
-      ends-end u g j y i =
+      ends_end : (u : List ℕ) (g : Meant.Read C.Code) (j : ℕ) → rest_at u (End j) ≡ rest_of g → j ≤ length u → eqb j (length u) ≡ is_some (whole_code g)
+      ends_end u g j y i =
           let d = done_of g (drop j u) (sym y) in
           by_test (eqb j (length u))
           (λ k.
@@ -314,6 +314,6 @@ module _ (b : List ℕ) (p e : ℕ) (past : p ≤ e) (ends : e ≤ length b) (l 
           rw o k)
 
       ends_is : (u : List ℕ) (g : Meant.Read C.Code) (r : Read) → rest_at u r ≡ rest_of g → EndsBy (length u) r → ends_at r (length u) ≡ is_some (whole_code g)
-      ends_is u g (End j) y i = ends-end u g j y i
+      ends_is u g (End j) y i = ends_end u g j y i
       ends_is u g Deep y i = rw (deep_of g (sym y))
       ends_is u g Broken y i = rw (broken_of g (sym y))

@@ -14,15 +14,15 @@ module _ (f : Translation) {o : Outcome} (x : Bool) (ex : x ≡ mapping_fits f) 
   formed_mapping h i = cc
 
   module _ (xt : x ≡ true) (y : Bool) (ey : y ≡ clauses_fit f) where
-    pub formed-clauses : y ≡ false → o ≡ Refused Why.WrongClauses → o ≡ checked (well_formed f)
+    pub formed_clauses : y ≡ false → o ≡ Refused Why.WrongClauses → o ≡ checked (well_formed f)
     unfolding well_formed
-    formed-clauses h i = cc
+    formed_clauses h i = cc
 
     module _ (yt : y ≡ true) (z : Bool) (ez : z ≡ codes_fit f) where
-      pub formed-codes : z ≡ false → o ≡ Refused Why.IllegalCode → o ≡ checked (well_formed f)
+      pub formed_codes : z ≡ false → o ≡ Refused Why.IllegalCode → o ≡ checked (well_formed f)
       unfolding well_formed
-      formed-codes h i = cc
+      formed_codes h i = cc
 
-      pub formed-all : z ≡ true → o ≡ Accepted 0 → o ≡ checked (well_formed f)
+      pub formed_all : z ≡ true → o ≡ Accepted 0 → o ≡ checked (well_formed f)
       unfolding well_formed
-      formed-all h i = cc
+      formed_all h i = cc

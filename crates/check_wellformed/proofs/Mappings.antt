@@ -61,8 +61,8 @@ module _ (f : ℕ → Bool) (k : ℕ) (x : Bool) (inv : all f (count_up (32 - k)
         let i : k + 1 ≡ suc k = omega arith in
         ap (λ (j : ℕ). all f (k ∷ count_up (32 - (k + 1)) j)) i ∙ (rw z at inv)
 
-    pub count-stop : b ≡ false → false ≡ x
-    count-stop h = all_stop f k _ turn (sym eb ∙ h)
+    pub count_stop : b ≡ false → false ≡ x
+    count_stop h = all_stop f k _ turn (sym eb ∙ h)
 
     pub count_next : b ≡ true → all f (count_up (32 - (k + 1)) (k + 1)) ≡ x
     count_next h = all_next f k _ turn (sym eb ∙ h)
@@ -231,10 +231,10 @@ module _ (s t it b u : List ℕ) (f : Translation) (z : Ready s t it b u f) (byt
             rw (is_there k i, em k i, on l (λ j m. h j (inr m)))
 
     module _ (reached : List Bool) (er : (k : ℕ) → k < 32 → get_or reached k false ≡ is_in f.target k) where
-      fits-is : (p : ℕ) → item_whole b p ≡ true
+      fits_is : (p : ℕ) → item_whole b p ≡ true
           → fits_at s (index_of s) t it b marked reached p ≡ (reaches_target f (item_at b p) && class_kept f (item_at b p))
       unfolding fits_at reaches_at kept_at reaches_target class_kept is_clause_at
-      fits-is p w =
+      fits_is p w =
           by_test (is_clause_tag (get_or b p 0))
           (λ c. rw (c, (clause_at_lem b p (rw (w, c))).is))
           (λ c.
@@ -243,17 +243,17 @@ module _ (s t it b u : List ℕ) (f : Translation) (z : Ready s t it b u f) (byt
           let g : ℕ = get_or b (field_end b p - 1) 0 in
           rw (c, e, em k m.source, er g m.target, range_same s (get_or (index_of s) k 0) t (get_or it g 0), ← (source_indexed s t it b u f z bytes).range k m.source, ← z.target.range g m.target))
 
-      fits-test : all (fits_at s (index_of s) t it b marked reached) (places b) ≡ (all (reaches_target f) f.body && all (class_kept f) f.body)
-      fits-test =
-          items_alike b f.body z.body (fits_at s (index_of s) t it b marked reached) (λ a. reaches_target f a && class_kept f a) fits-is
+      fits_test : all (fits_at s (index_of s) t it b marked reached) (places b) ≡ (all (reaches_target f) f.body && all (class_kept f) f.body)
+      fits_test =
+          items_alike b f.body z.body (fits_at s (index_of s) t it b marked reached) (λ a. reaches_target f a && class_kept f a) fits_is
           ∙ all_and (reaches_target f) (class_kept f) f.body
 
       -- mapping_fits
-      pub fits-items : (x : Bool) → x ≡ all (mapped_if u marked) (count_up 32 0) → x ≡ true
+      pub fits_items : (x : Bool) → x ≡ all (mapped_if u marked) (count_up 32 0) → x ≡ true
           → (y : Bool) → y ≡ all (fits_at s (index_of s) t it b marked reached) (places b) → y ≡ mapping_fits f
       unfolding mapping_fits
-      fits-items x ex h y ey = rw (← mapped_test, ← ex, h) (ey ∙ fits-test)
+      fits_items x ex h y ey = rw (← mapped_test, ← ex, h) (ey ∙ fits_test)
 
-    pub fits-kinds : (x : Bool) → x ≡ all (mapped_if u marked) (count_up 32 0) → x ≡ false → false ≡ mapping_fits f
+    pub fits_kinds : (x : Bool) → x ≡ all (mapped_if u marked) (count_up 32 0) → x ≡ false → false ≡ mapping_fits f
     unfolding mapping_fits
-    fits-kinds x ex h = rw (← mapped_test, ← ex, h)
+    fits_kinds x ex h = rw (← mapped_test, ← ex, h)

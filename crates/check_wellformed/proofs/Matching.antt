@@ -16,7 +16,7 @@ use Rattle.format_fields.specs.Inner.Places.{field_end, is_whole, long_at, place
 use Rattle.format_fields.proofs.Truth.{Mem, by_test, and_both, both_and, all_mem, mem_all, mem_append, append_cases, mem_map, map_cases}
 use Rattle.format_fields.proofs.Lists.{all_true}
 use Rattle.format_fields.proofs.Skips.{all_append}
-use Rattle.format_fields.proofs.Keyed.{From, Rising, from_weaken, from_mem, from_rising, rising_from, is_rising}
+use Rattle.format_fields.proofs.Keyed.{From, Rising, from_weaken, from_mem, from_rising, rising_from_lem, is_rising}
 use Rattle.format_fields.proofs.Places.{places_done, places_next, every_here, every_after}
 use Rattle.format_language.specs.Language.{entry_key, production_key}
 use Rattle.format_language.specs.Inner.Entries.{entry_whole, entry_at, IsProduction, RisingEntries}
@@ -33,7 +33,7 @@ use Rattle.check_wellformed.specs.Inner.Ready.{Ready}
 use Rattle.check_wellformed.specs.Inner.Tests.{is_clause_at, ClauseAt}
 use Rattle.check_wellformed.specs.Inner.Matching.{items_from, orders_from, clause_keys, wanted_keys, wanted_from, keys_match, Sides, Asked, Cleared}
 use Rattle.check_wellformed.proofs.Bounds.{Bounded, bounded_at, bounded, item_place, within}
-use Rattle.check_wellformed.proofs.Wanted.{wanted-keys}
+use Rattle.check_wellformed.proofs.Wanted.{wanted_keys_lem}
 use Rattle.check_wellformed.proofs.Coded.{clause_at_lem}
 use Rattle.check_wellformed.proofs.Mappings.{mapping_at, items_alike}
 
@@ -201,9 +201,9 @@ module _ (b : List ℕ) (bytes : (i : ℕ) → get_or b i 0 < 256) (m kind key p
     pub order_least : kind * 256 ≤ order
     order_least = rw eo order_from
 
-    pub clear-past : kind * 256 + 256 ≤ order → Cleared b m kind key p to
+    pub clear_past : kind * 256 + 256 ≤ order → Cleared b m kind key p to
     unfolding items_from
-    clear-past h =
+    clear_past h =
         let f = from_rising (order_at 0x22 b) (kind * 256) (places_from b at) z.asked.rises in
         let g = rw (places_next b at here) at f in
         let k : From (order_at 0x22 b) (order_at 0x22 b at) (places_from b at) = rw (places_next b at here) (omega arith, g.1) in
@@ -227,24 +227,24 @@ module _ (b : List ℕ) (bytes : (i : ℕ) → get_or b i 0 < 256) (m kind key p
       unfolding clause_keys
       turn l = rw numbers_are at (z.same l)
 
-      missing-all : ((l : List ℕ) → same_numbers (clause_keys key (numbers_of (items_from b m) kind) ++ l) (orders_from b p) ≡ false)
+      missing_all : ((l : List ℕ) → same_numbers (clause_keys key (numbers_of (items_from b m) kind) ++ l) (orders_from b p) ≡ false)
           → Cleared b m kind key p (length b + 1)
-      missing-all h = record {
+      missing_all h = record {
         missing = λ i l. h l;
         there = λ i. absurd (omega arith);
         whole = λ i. absurd (omega arith);
       }
 
-      pub clear-short : length b ≤ to → Cleared b m kind key p (length b + 1)
+      pub clear_short : length b ≤ to → Cleared b m kind key p (length b + 1)
       unfolding same_numbers
-      clear-short h = missing-all (λ l. turn l ∙ rw (orders_done b to h))
+      clear_short h = missing_all (λ l. turn l ∙ rw (orders_done b to h))
 
       module _ (there : to < length b) (other : ℕ) (et : other ≡ order_at 0x22 b to) where
-        pub clear-other : (other ≡ key * 256 + (order - kind * 256) → ⊥) → Cleared b m kind key p (length b + 1)
+        pub clear_other : (other ≡ key * 256 + (order - kind * 256) → ⊥) → Cleared b m kind key p (length b + 1)
         unfolding same_numbers
-        clear-other h =
+        clear_other h =
             let n : key * 256 + (order - kind * 256) ≡ order_at 0x22 b to → ⊥ = λ d. h (et ∙ sym d) in
-            missing-all (λ l. turn l ∙ rw (orders_next b to there, ne_eqb _ _ n))
+            missing_all (λ l. turn l ∙ rw (orders_next b to there, ne_eqb _ _ n))
 
         pub clear_next : other ≡ key * 256 + (order - kind * 256) → (d e : ℕ) → d ≡ field_end b at → e ≡ field_end b to
             → Clearing b m kind key p d e
@@ -259,7 +259,7 @@ module _ (b : List ℕ) (bytes : (i : ℕ) → get_or b i 0 < 256) (m kind key p
               asked = record {
                 below = z.asked.below;
                 mappings = every_after (item_whole b) b at d ed z.asked.mappings here;
-                rises = rw ed (rising_from (order_at 0x22 b) (kind * 256) (places_from b (field_end b at)) (from_weaken (order_at 0x22 b) (places_from b (field_end b at)) i g.1));
+                rises = rw ed (rising_from_lem (order_at 0x22 b) (kind * 256) (places_from b (field_end b at)) (from_weaken (order_at 0x22 b) (places_from b (field_end b at)) i g.1));
                 clauses = every_after (item_whole b) b to e ee z.asked.clauses there;
                 inside = whole_inside b to e w.0 ee;
               };
@@ -326,30 +326,30 @@ module _ (s : List ℕ) (q : ℕ) (b : List ℕ) (p from to m : ℕ) (z : Walk s
     key_of = production_key_lem s from is_production
 
     module _ (kind : ℕ) (ek : kind ≡ get_or s (from + 3) 0) (n : ℕ) (sk : Skipped 0x22 (kind * 256) b m n) where
-      kind-least : z.least ≤ kind
-      kind-least = let e = entry_in in omega (arith, e.1, key_of, source_bytes_lem (from + 4), ek)
+      kind_least : z.least ≤ kind
+      kind_least = let e = entry_in in omega (arith, e.1, key_of, source_bytes_lem (from + 4), ek)
 
       pub asks : Asked b n kind to
       asks = record {
         below = rw ek is_production.kind;
         mappings = skip_rest 0x22 (kind * 256) b m n sk (item_whole b) z.mappings;
-        rises = rising_from (order_at 0x22 b) (kind * 256) (places_from b n) (rest_keys 0x22 (kind * 256) b m n sk z.rises);
+        rises = rising_from_lem (order_at 0x22 b) (kind * 256) (places_from b n) (rest_keys 0x22 (kind * 256) b m n sk z.rises);
         clauses = z.clauses;
         inside = z.inside;
       }
 
       module _ (key : ℕ) (e-key : key ≡ key_at 0x11 s from) (r : ℕ) (cl : Cleared b n kind key to r) where
         -- What the production asks for.
-        asked-for : wanted_from s from (items_from b 0) ≡ clause_keys key (numbers_of (items_from b n) kind) ++ wanted_from s (field_end s from) (items_from b 0)
+        asked_for : wanted_from s from (items_from b 0) ≡ clause_keys key (numbers_of (items_from b n) kind) ++ wanted_from s (field_end s from) (items_from b 0)
         unfolding wanted_keys
-        asked-for =
+        asked_for =
             let i : numbers_of (items_from b n) kind ≡ numbers_of (items_from b 0) (get_or s (from + 3) 0) =
-            sym (numbers_skip b bytes kind m n (kind * 256) sk (omega arith) z.mappings) ∙ (z.ahead kind kind-least ∙ ap (numbers_of (items_from b 0)) ek) in
+            sym (numbers_skip b bytes kind m n (kind * 256) sk (omega arith) z.mappings) ∙ (z.ahead kind kind_least ∙ ap (numbers_of (items_from b 0)) ek) in
             wanted_next s from (items_from b 0) here
             ∙ rw (production_is s from is_production, i, e-key, key_of) refl
 
-        pub walk-missing : length b < r → false ≡ keys_match s q b p
-        walk-missing h = sym (cl.missing h (wanted_from s (field_end s from) (items_from b 0))) ∙ (rw asked-for at z.match)
+        pub walk_missing : length b < r → false ≡ keys_match s q b p
+        walk_missing h = sym (cl.missing h (wanted_from s (field_end s from) (items_from b 0))) ∙ (rw asked_for at z.match)
 
         pub walk_next : r ≤ length b → (e : ℕ) → e ≡ field_end s from → Walk s q b p e r n
         walk_next h e ee =
@@ -361,10 +361,10 @@ module _ (s : List ℕ) (q : ℕ) (b : List ℕ) (p from to m : ℕ) (z : Walk s
               productions = rw ee (from_weaken (key_at 0x11 s) (places_from s (field_end s from)) i y.2);
               mappings = skip_rest 0x22 (kind * 256) b m n sk (item_whole b) z.mappings;
               rises = from_weaken (order_at 0x22 b) (places_from b n) (omega arith) (rest_keys 0x22 (kind * 256) b m n sk z.rises);
-              ahead = λ k l. sym (numbers_skip b bytes k m n (kind * 256) sk (omega arith) z.mappings) ∙ z.ahead k (omega (arith, kind-least));
+              ahead = λ k l. sym (numbers_skip b bytes k m n (kind * 256) sk (omega arith) z.mappings) ∙ z.ahead k (omega (arith, kind_least));
               clauses = cl.whole h;
               inside = h;
-              match = rw ee (sym (cl.there h (wanted_from s (field_end s from) (items_from b 0))) ∙ (rw asked-for at z.match));
+              match = rw ee (sym (cl.there h (wanted_from s (field_end s from) (items_from b 0))) ∙ (rw asked_for at z.match));
             }
 
 -- What the walk says of the translation.
@@ -414,14 +414,14 @@ module _ (s t it b u : List ℕ) (f : Translation) (z : Ready s t it b u f)
   body_long = items_long b items_are
 
   module _ (q p : ℕ) (x : Skipped 0x11 32 s 0 q) (y : Skipped 0x22 8192 b 0 p) where
-    clause-orders : From (order_at 0x22 b) 8192 (places_from b p)
-    clause-orders = rest_keys 0x22 8192 b 0 p y (is_rising (order_at 0x22 b) (places b) body_order)
+    clause_orders : From (order_at 0x22 b) 8192 (places_from b p)
+    clause_orders = rest_keys 0x22 8192 b 0 p y (is_rising (order_at 0x22 b) (places b) body_order)
 
     pub sides : Sides s q b p
     unfolding order_at key_at
     sides = record {
       entries = skip_rest 0x11 32 s 0 q x (entry_whole s) entries_are;
-      productions = rising_from (key_at 0x11 s) 32 (places_from s q) (rest_keys 0x11 32 s 0 q x source_rises);
+      productions = rising_from_lem (key_at 0x11 s) 32 (places_from s q) (rest_keys 0x11 32 s 0 q x source_rises);
       items = items_are;
       rises = body_order;
       clauses = skip_rest 0x22 8192 b 0 p y (item_whole b) items_are;
@@ -440,12 +440,12 @@ module _ (s t it b u : List ℕ) (f : Translation) (z : Ready s t it b u f)
         let i : item_key (mapping (get_or b (x + 3) 0) j (get_or b (field_end b x - 1) 0)) ≡ order_at 0x22 b x = rw e at (item-key-is b x w) in
         absurd (omega (arith, v.0, v.1, i, h)))
 
-    pub clauses-are : all (is_clause_at b) (places_from b p) ≡ true
+    pub clauses_are : all (is_clause_at b) (places_from b p) ≡ true
     unfolding is_clause_at
-    clauses-are =
+    clauses_are =
         mem_all (is_clause_at b) (places_from b p) (λ x m.
         let w = all_mem (item_whole b) (places_from b p) (skip_rest 0x22 8192 b 0 p y (item_whole b) items_are) x m in
-        both_and _ _ w (clause_tag x w (from_mem (order_at 0x22 b) (places_from b p) clause-orders m)))
+        both_and _ _ w (clause_tag x w (from_mem (order_at 0x22 b) (places_from b p) clause_orders m)))
 
     -- The keys of the clauses.
     is_key : (r n j : ℕ) (c : List ℕ) → Mem (clause r n j c) f.body → Mem (production_key r n * 256 + j) (orders_from b p)
@@ -461,15 +461,15 @@ module _ (s t it b u : List ℕ) (f : Translation) (z : Ready s t it b u f)
     key_is k m =
         let (x, l, e) = map_cases (order_at 0x22 b) k (places_from b p) m in
         let w = all_mem (item_whole b) (places_from b p) (skip_rest 0x22 8192 b 0 p y (item_whole b) items_are) x l in
-        let a : ClauseAt b x = clause_at_lem b x (all_mem (is_clause_at b) (places_from b p) clauses-are x l) in
+        let a : ClauseAt b x = clause_at_lem b x (all_mem (is_clause_at b) (places_from b p) clauses_are x l) in
         let q = mem_map (item_at b) x (places b) (rest_mem 0x22 8192 b 0 p y x l) in
         let o = rw ((holds_items b f.body z.body).items, a.is) at q in
         (_, _, _, _, o, e ∙ (sym (item-key-is b x w) ∙ rw a.is refl))
 
     -- What the entries ask for.
-    wanted-are : wanted_from s q (items_from b 0) ≡ concat_map (wanted_keys f.body) f.source
+    wanted_are : wanted_from s q (items_from b 0) ≡ concat_map (wanted_keys f.body) f.source
     unfolding wanted_from items_from wanted_keys
-    wanted-are =
+    wanted_are =
         let h = holds_entries s f.source z.source in
         rw (holds_items b f.body z.body).items
         (sym (concat_skip (λ v. wanted_keys f.body (entry_at s v)) x.before (places_from s q) classes)
@@ -489,22 +489,22 @@ module _ (s t it b u : List ℕ) (f : Translation) (z : Ready s t it b u f)
     pub match_is : keys_match s q b p ≡ clauses_fit f
     unfolding keys_match orders_from
     match_is =
-        rw wanted-are
-        (wanted-keys f (is_rising entry_key f.source (rises_parts f z.rises).0) (is_rising item_key f.body (rises_parts f z.rises).2)
+        rw wanted_are
+        (wanted_keys_lem f (is_rising entry_key f.source (rises_parts f z.rises).0) (is_rising item_key f.body (rises_parts f z.rises).2)
         (within s source_bytes_lem f.source z.source) (bounded b bytes f.body z.body)
-        (orders_from b p) (from_weaken (λ (v : ℕ). v) (orders_from b p) (omega arith) (map_keys (order_at 0x22 b) 8192 (places_from b p) clause-orders))
+        (orders_from b p) (from_weaken (λ (v : ℕ). v) (orders_from b p) (omega arith) (map_keys (order_at 0x22 b) 8192 (places_from b p) clause_orders))
         is_key key_is)
 
     -- What `codes_typed` answers.
-    pub codes-are : all (λ x. code_fits f (item_at b x)) (places_from b p) ≡ codes_fit f
+    pub codes_are : all (λ x. code_fits f (item_at b x)) (places_from b p) ≡ codes_fit f
     unfolding codes_fit code_fits item_key plain_key number_of is_clause_at
-    codes-are =
+    codes_are =
         sym (ap (all (λ x. code_fits f (item_at b x))) y.are
-        ∙ all_append (λ x. code_fits f (item_at b x)) y.before (places_from b p) (mem_all _ y.before mappings-fit))
+        ∙ all_append (λ x. code_fits f (item_at b x)) y.before (places_from b p) (mem_all _ y.before mappings_fit))
         ∙ items_alike b f.body z.body (λ x. code_fits f (item_at b x)) (code_fits f) (λ x w. refl)
       where
-        mappings-fit : (v : ℕ) → Mem v y.before → code_fits f (item_at b v) ≡ true
-        mappings-fit v m =
+        mappings_fit : (v : ℕ) → Mem v y.before → code_fits f (item_at b v) ≡ true
+        mappings_fit v m =
             let w = all_mem (item_whole b) y.before (skip_front 0x22 8192 b 0 p y (item_whole b) items_are) v m in
             let l = before_below 0x22 8192 b 0 p y v m in
             by_test (is_clause_tag (get_or b v 0))

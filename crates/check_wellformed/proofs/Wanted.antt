@@ -123,9 +123,9 @@ module _ (f : Translation) (source_rises : Rising entry_key f.source) (body_rise
           let v = some_is (clause_of f.body r p j) (all_mem _ (numbers_of f.body r) y j q) in
           rw e (is_key r p j v.0 (clause_mem f.body r p j v.0 v.1))
 
-      production-found : (k : ℕ) → Mem k keys → Mem k wanted
+      production_found : (k : ℕ) → Mem k keys → Mem k wanted
       unfolding has_production
-      production-found k m =
+      production_found k m =
           let (r, p, j, c, n, e) = key_is k m in
           let y = and_both (is_some (arguments_of f.source r p)) (is_some (mapping_of f.body r j)) (all_mem (has_production f) f.body (clause_tests f fits).1 (clause r p j c) n) in
           let q = some_is (arguments_of f.source r p) y.0 in
@@ -134,17 +134,17 @@ module _ (f : Translation) (source_rises : Rising entry_key f.source) (body_rise
 
       fits_same : same_numbers wanted keys ≡ true
       fits_same =
-          let e = rising_ext (λ (x : ℕ). x) 0 0 wanted keys (wanted_rise 0 f.source source_rises) rises clause_found production-found in
+          let e = rising_ext (λ (x : ℕ). x) 0 0 wanted keys (wanted_rise 0 f.source source_rises) rises clause_found production_found in
           rw e (equal_numbers keys)
 
     module _ (same : same_numbers wanted keys ≡ true) where
       equal : wanted ≡ keys
       equal = numbers_equal wanted keys same
 
-      has-clause : (a : Entry) → Mem a f.source → has_clause f a ≡ true
+      has_clause_lem : (a : Entry) → Mem a f.source → has_clause f a ≡ true
       unfolding has_clause
-      has-clause (class k c) m = refl
-      has-clause (production r p ks) m =
+      has_clause_lem (class k c) m = refl
+      has_clause_lem (production r p ks) m =
           mem_all _ (numbers_of f.body r) (λ j n.
           let (s, q, i, c, o, e) = key_is (production_key r p * 256 + j) (rw equal at (is_wanted r p j ks m n)) in
           let x = entries (production r p ks) m in
@@ -165,9 +165,9 @@ module _ (f : Translation) (source_rises : Rising entry_key f.source) (body_rise
           (is_some_lem (arguments_of f.source s q) (mem_arguments f.source source_rises s q ks n))
           (is_some_lem (mapping_of f.body s i) (mem_mapping f.body body_rises s i t.0 t.1)))
 
-      same-fits : clauses_fit f ≡ true
+      same_fits : clauses_fit f ≡ true
       unfolding clauses_fit
-      same-fits = both_and _ _ (mem_all (has_clause f) f.source has-clause) (mem_all (has_production f) f.body has_production_lem)
+      same_fits = both_and _ _ (mem_all (has_clause f) f.source has_clause_lem) (mem_all (has_production f) f.body has_production_lem)
 
-    pub wanted-keys : same_numbers wanted keys ≡ clauses_fit f
-    wanted-keys = same_truth (same_numbers wanted keys) (clauses_fit f) same-fits fits_same
+    pub wanted_keys_lem : same_numbers wanted keys ≡ clauses_fit f
+    wanted_keys_lem = same_truth (same_numbers wanted keys) (clauses_fit f) same_fits fits_same

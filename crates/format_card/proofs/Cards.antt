@@ -13,9 +13,9 @@ use borrow.Author.Tests.{eq-eqb, ne_eqb, lt-ltb, le-ltb, le-leb, lt-leb, ltb-tru
 use Rattle.format_fields.specs.Fields.{Field, pair_at, fields_of}
 use Rattle.format_fields.specs.Inner.Places.{field_end, field_at}
 use Rattle.format_fields.specs.Lists.{all, any, before}
-use Rattle.format_fields.specs.Keyed.{risingFrom, rising}
+use Rattle.format_fields.specs.Keyed.{rising_from, rising}
 use Rattle.format_fields.proofs.Truth.{false_true, by_test, both_and, and_both}
-use Rattle.format_fields.proofs.Split.{front, fields_done, fields_next, fields-cut}
+use Rattle.format_fields.proofs.Split.{front, fields_done, fields_next, fields_cut}
 use Rattle.outcome.specs.Outcome.{value, refused, refuse_if, checked}
 use Rattle.outcome.specs.declared.Outcome.TheVariants.{Accepted, Refused}
 use Rattle.outcome.specs.declared.Reason.{Reason}
@@ -37,20 +37,20 @@ module _ (s : List ℕ) where
   card_short h = rw (lt-leb 3 (length s) h) refl
 
   module _ (long : 3 ≤ length s) where
-    pub card-tag : (get_or s 0 0 ≡ 0x27 → ⊥) → false ≡ is_card s
+    pub card_tag : (get_or s 0 0 ≡ 0x27 → ⊥) → false ≡ is_card s
     unfolding is_card
-    card-tag h = rw (le-leb 3 (length s) long, ne_eqb (get_or s 0 0) 0x27 h) refl
+    card_tag h = rw (le-leb 3 (length s) long, ne_eqb (get_or s 0 0) 0x27 h) refl
 
-    pub card-size : {n : ℕ} → get_or s 0 0 ≡ 0x27 → n ≡ pair_at s 1 → eqb n (length s - 3) ≡ is_card s
+    pub card_size : {n : ℕ} → get_or s 0 0 ≡ 0x27 → n ≡ pair_at s 1 → eqb n (length s - 3) ≡ is_card s
     unfolding is_card
-    card-size h e = rw (le-leb 3 (length s) long, eq-eqb (get_or s 0 0) 0x27 h, e) refl
+    card_size h e = rw (le-leb 3 (length s) long, eq-eqb (get_or s 0 0) 0x27 h, e) refl
 
 -- contents, a turn at a time.
 pub record Going (s : List ℕ) (kinds least : ℕ) (up : Bool) (i : ℕ) : Type 0 where
   pub low : 3 ≤ i
   pub inside : i ≤ length s
   pub only : all is_kind (drop 3 s) ≡ all is_kind (drop i s)
-  pub order : risingFrom (λ k. k) 0 (drop 3 s) ≡ (up && risingFrom (λ k. k) least (drop i s))
+  pub order : rising_from (λ k. k) 0 (drop 3 s) ≡ (up && rising_from (λ k. k) least (drop i s))
   pub holds : up ≡ true → (k : ℕ) → (in_set kinds k || sees (drop i s) k) ≡ sees (drop 3 s) k
   pub small : kinds < 2 ^ least
   pub narrow : least ≤ 32
@@ -92,8 +92,8 @@ module _ (s : List ℕ) {kinds least : ℕ} {up : Bool} {i : ℕ} (g : Going s k
     unfolding all
     no_kind h = rw (le-ltb kind 32 h) refl
 
-    pub going-broken : 32 ≤ kind → Scans (drop 3 s) Broken
-    going-broken h = record {
+    pub going_broken : 32 ≤ kind → Scans (drop 3 s) Broken
+    going_broken h = record {
       broken = λ e. g.only ∙ (ap (all is_kind) head ∙ no_kind h);
       unordered = λ e. not_each e;
       set = λ n e. not_broken (sym e);
@@ -107,12 +107,12 @@ module _ (s : List ℕ) {kinds least : ℕ} {up : Bool} {i : ℕ} (g : Going s k
       passed : all is_kind (drop i s) ≡ all is_kind (drop (i + 1) s)
       passed = ap (all is_kind) head ∙ one_kind
 
-      falls : kind < least → risingFrom (λ k. k) least (kind ∷ drop (i + 1) s) ≡ false
-      unfolding risingFrom
+      falls : kind < least → rising_from (λ k. k) least (kind ∷ drop (i + 1) s) ≡ false
+      unfolding rising_from
       falls h = rw (lt-leb least kind h) refl
 
-      rises : least ≤ kind → risingFrom (λ k. k) least (kind ∷ drop (i + 1) s) ≡ risingFrom (λ k. k) (kind + 1) (drop (i + 1) s)
-      unfolding risingFrom
+      rises : least ≤ kind → rising_from (λ k. k) least (kind ∷ drop (i + 1) s) ≡ rising_from (λ k. k) (kind + 1) (drop (i + 1) s)
+      unfolding rising_from
       rises h = let e : suc kind ≡ kind + 1 = omega arith in rw (le-leb least kind h, e) refl
 
       seen : (k : ℕ) → sees (drop i s) k ≡ (eqb kind k || sees (drop (i + 1) s) k)
@@ -122,19 +122,19 @@ module _ (s : List ℕ) {kinds least : ℕ} {up : Bool} {i : ℕ} (g : Going s k
       below : least ≤ kind → kinds < 2 ^ kind
       below h = let m : 2 ^ least ≤ 2 ^ kind = pow_mono h in omega (arith, g.small)
 
-      pub going-unordered : {kinds' least' : ℕ} {up' : Bool} → kind < least → kinds' ≡ kinds → least' ≡ least → up' ≡ false → Going s kinds' least' up' (i + 1)
-      going-unordered h ea eb eu = rw (ea, eb, eu) (record {
+      pub going_unordered : {kinds' least' : ℕ} {up' : Bool} → kind < least → kinds' ≡ kinds → least' ≡ least → up' ≡ false → Going s kinds' least' up' (i + 1)
+      going_unordered h ea eb eu = rw (ea, eb, eu) (record {
         low = omega (arith, g.low);
         inside = omega arith;
         only = g.only ∙ passed;
-        order = g.order ∙ (ap (λ (l : List ℕ). up && risingFrom (λ k. k) least l) head ∙ (ap (λ (b : Bool). up && b) (falls h) ∙ and_false up));
+        order = g.order ∙ (ap (λ (l : List ℕ). up && rising_from (λ k. k) least l) head ∙ (ap (λ (b : Bool). up && b) (falls h) ∙ and_false up));
         holds = λ e. false_true e;
         small = g.small;
         narrow = g.narrow;
       })
 
-      pub going-fits : {one : ℕ} → least ≤ kind → one ≡ 2 ^ kind → kinds + one < 2 ^ 32
-      going-fits h eo =
+      pub going_fits : {one : ℕ} → least ≤ kind → one ≡ 2 ^ kind → kinds + one < 2 ^ 32
+      going_fits h eo =
           let m : 2 ^ (kind + 1) ≤ 2 ^ 32 = pow_mono {i = kind + 1} {j = 32} (omega arith) in
           omega (arith, put_small kinds kind (below h), eo)
 
@@ -144,7 +144,7 @@ module _ (s : List ℕ) {kinds least : ℕ} {up : Bool} {i : ℕ} (g : Going s k
         low = omega (arith, g.low);
         inside = omega arith;
         only = g.only ∙ passed;
-        order = g.order ∙ (ap (λ (l : List ℕ). up && risingFrom (λ k. k) least l) head ∙ ap (λ (b : Bool). up && b) (rises h));
+        order = g.order ∙ (ap (λ (l : List ℕ). up && rising_from (λ k. k) least l) head ∙ ap (λ (b : Bool). up && b) (rises h));
         holds = λ e k. ap (λ (b : Bool). b || sees (drop (i + 1) s) k) (put_bit kinds kind (below h) k)
             ∙ (or_assoc (in_set kinds k) (eqb kind k) (sees (drop (i + 1) s) k)
             ∙ (ap (λ (b : Bool). in_set kinds k || b) (sym (seen k)) ∙ g.holds e k));
@@ -161,8 +161,8 @@ module _ (s : List ℕ) {kinds least : ℕ} {up : Bool} {i : ℕ} (g : Going s k
     all_kinds = g.only ∙ ap (all is_kind) nothing
 
     ordered : rising (λ k. k) (drop 3 s) ≡ (up && true)
-    unfolding rising risingFrom
-    ordered = g.order ∙ ap (λ (l : List ℕ). up && risingFrom (λ k. k) least l) nothing
+    unfolding rising rising_from
+    ordered = g.order ∙ ap (λ (l : List ℕ). up && rising_from (λ k. k) least l) nothing
 
     none_left : (k : ℕ) → (in_set kinds k || sees [] k) ≡ in_set kinds k
     unfolding sees any
@@ -175,8 +175,8 @@ module _ (s : List ℕ) {kinds least : ℕ} {up : Bool} {i : ℕ} (g : Going s k
     held : up ≡ true → Holds kinds (drop 3 s)
     held e k = sym (none_left k) ∙ (ap (λ (l : List ℕ). in_set kinds k || sees l k) (sym nothing) ∙ g.holds e k)
 
-    pub going-fails : up ≡ false → Scans (drop 3 s) Unordered
-    going-fails e = record {
+    pub going_fails : up ≡ false → Scans (drop 3 s) Unordered
+    going_fails e = record {
       broken = λ q. not_each (sym q);
       unordered = λ q. (all_kinds, ordered ∙ ap (λ (b : Bool). b && true) e);
       set = λ n q. not_unordered (sym q);
@@ -207,7 +207,7 @@ module _ (s : List ℕ) where
   unfolding card_in
   card_cut h =
       by_test (ltb 0 (length s))
-      (λ t. ap card_in (fields-cut s 0 (ltb-true 0 (length s) t) (omega (arith, whole_end))))
+      (λ t. ap card_in (fields_cut s 0 (ltb-true 0 (length s) t) (omega (arith, whole_end))))
       (λ t. ap card_in (fields_done s 0 (ltb-false 0 (length s) t)))
 
   card_more : 3 + pair_at s 1 < length s → card_in (fields_of s) ≡ none
@@ -216,7 +216,7 @@ module _ (s : List ℕ) where
       ap card_in (fields_next s 0 (omega arith) (omega (arith, whole_end)))
       ∙ by_test (leb (field_end s (field_end s 0)) (length s))
       (λ t. ap (λ (o : Option (List Field)). card_in (before (some (field_at s 0)) o)) (fields_next s (field_end s 0) (omega (arith, whole_end)) (leb-true _ _ t)) ∙ none_two (field_at s 0) (field_at s (field_end s 0)) (fields_of (drop (field_end s (field_end s 0)) s)))
-      (λ t. ap (λ (o : Option (List Field)). card_in (before (some (field_at s 0)) o)) (fields-cut s (field_end s 0) (omega (arith, whole_end)) (leb-false _ _ t)))
+      (λ t. ap (λ (o : Option (List Field)). card_in (before (some (field_at s 0)) o)) (fields_cut s (field_end s 0) (omega (arith, whole_end)) (leb-false _ _ t)))
 
   card_one : 3 + pair_at s 1 ≡ length s → card_in (fields_of s) ≡ cond (eqb (get_or s 0 0) 0x27 && all is_kind (drop 3 s)) (some (drop 3 s)) none
   unfolding card_in field_at
@@ -276,16 +276,16 @@ module _ (s : List ℕ) where
   card_long h = leb-true _ _ (and_both (leb 3 (length s)) (eqb (get_or s 0 0) 0x27 && eqb (pair_at s 1) (length s - 3)) h).0
 
   module _ (is : is_card s ≡ true) {x : Kinds} (w : Scans (drop 3 s) x) where
-    pub reads-no-kind : {r : Seen} → x ≡ Broken → r.outcome ≡ Refused BrokenField → r.kinds ≡ 0 → Reads (card_of s) r
-    reads-no-kind e = refused_reads (of_broken (rw (is, w.broken e) refl))
+    pub reads_no_kind : {r : Seen} → x ≡ Broken → r.outcome ≡ Refused BrokenField → r.kinds ≡ 0 → Reads (card_of s) r
+    reads_no_kind e = refused_reads (of_broken (rw (is, w.broken e) refl))
 
-    pub reads-unordered : {r : Seen} → x ≡ Unordered → r.outcome ≡ Refused OutOfOrder → r.kinds ≡ 0 → Reads (card_of s) r
-    reads-unordered e =
+    pub reads_unordered : {r : Seen} → x ≡ Unordered → r.outcome ≡ Refused OutOfOrder → r.kinds ≡ 0 → Reads (card_of s) r
+    reads_unordered e =
         let u = w.unordered e in
         refused_reads (of_card (both_and _ _ is u.0) ∙ ap (λ (b : Bool). refuse_if (not b) OutOfOrder (value (drop 3 s))) u.1)
 
-    pub reads-set : {kinds : ℕ} → x ≡ Set kinds → Reads (card_of s) (record { outcome = Accepted 0; kinds = kinds })
-    reads-set {kinds} e =
+    pub reads_set : {kinds : ℕ} → x ≡ Set kinds → Reads (card_of s) (record { outcome = Accepted 0; kinds = kinds })
+    reads_set {kinds} e =
         let u = w.set kinds e in
         let v : card_of s ≡ value (drop 3 s) = of_card (both_and _ _ is u.0) ∙ ap (λ (b : Bool). refuse_if (not b) OutOfOrder (value (drop 3 s))) u.1 in
         record {

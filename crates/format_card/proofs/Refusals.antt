@@ -40,11 +40,11 @@ module _ {first second : Outcome} {s : Reason} (es : second ≡ Refused s) where
   lowest_one e = rw (e, es) refl
 
   module _ {r : Reason} (er : first ≡ Refused r) {a b : ℕ} (ea : a ≡ reason_number s) (eb : b ≡ reason_number r) where
-    pub lowest-second : a < b → Refused s ≡ lowest_of first second
-    lowest-second h = rw (er, es) (ap Refused (sym (lower_second r s (rw (ea, eb) at h))))
+    pub lowest_second : a < b → Refused s ≡ lowest_of first second
+    lowest_second h = rw (er, es) (ap Refused (sym (lower_second r s (rw (ea, eb) at h))))
 
-    pub lowest-first : b ≤ a → Refused r ≡ lowest_of first second
-    lowest-first h = rw (er, es) (ap Refused (sym (lower_first r s (rw (ea, eb) at h))))
+    pub lowest_first : b ≤ a → Refused r ≡ lowest_of first second
+    lowest_first h = rw (er, es) (ap Refused (sym (lower_first r s (rw (ea, eb) at h))))
 
 -- A card is refused by 2 or 3.
 card_low : (c : List ℕ) (q : Reason) → card_of c ≡ refused q → reason_number q < 4

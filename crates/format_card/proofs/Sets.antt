@@ -66,11 +66,11 @@ module _ (n a : ℕ) (below : n < 2 ^ a) (k : ℕ) where
       upper_bit h ∙ sym (ap (λ (b : Bool). b || eqb a k) (no_bit n k (omega arith)) ∙ u)))
     where
       same : {x y : Bool} → x ≡ true → y ≡ true → x ≡ (in_set n k || y)
-      same {x} {y} e f = e ∙ (or-true (in_set n k) ∙ ap (λ (b : Bool). in_set n k || b) (sym f))
+      same {x} {y} e f = e ∙ (or_true (in_set n k) ∙ ap (λ (b : Bool). in_set n k || b) (sym f))
         where
-          or-true : (b : Bool) → true ≡ (b || true)
-          or-true true = refl
-          or-true false = refl
+          or_true : (b : Bool) → true ≡ (b || true)
+          or_true true = refl
+          or_true false = refl
 
 module _ (n a : ℕ) (below : n < 2 ^ a) where
   pub put_small : n + 2 ^ a < 2 ^ (a + 1)

@@ -19,12 +19,12 @@ pub tree_high : (l : Language) (k : ℕ) (b : List ℕ) (p : Reason) → tree_of
 unfolding tree_of
 tree_high l k b p e = go (not (is_in l k)) (read tree l [] tree_levels k b) e
   where
-    by-reading : (o : Read Code) → whole_tree o ≡ refused p → 13 < reason_number p
-    by-reading (done t []) h = refused_value (sym h)
-    by-reading (done t (x ∷ r)) h = rw (← same_refusal {A = Code} h) (omega arith)
-    by-reading deep h = rw (← same_refusal {A = Code} h) (omega arith)
-    by-reading broken h = rw (← same_refusal {A = Code} h) (omega arith)
+    by_reading : (o : Read Code) → whole_tree o ≡ refused p → 13 < reason_number p
+    by_reading (done t []) h = refused_value (sym h)
+    by_reading (done t (x ∷ r)) h = rw (← same_refusal {A = Code} h) (omega arith)
+    by_reading deep h = rw (← same_refusal {A = Code} h) (omega arith)
+    by_reading broken h = rw (← same_refusal {A = Code} h) (omega arith)
 
     go : (out : Bool) (o : Read Code) → refuse_if out Why.UnknownRoot (whole_tree o) ≡ refused p → 13 < reason_number p
     go true o h = rw (← same_refusal {A = Code} h) (omega arith)
-    go false o h = by-reading o h
+    go false o h = by_reading o h

@@ -9,7 +9,7 @@ use native.Mathlib.Omega.{arith}
 use lib.Dec.{ltb, leb, eqb}
 use borrow.Author.Tests.{ltb-true, ltb-false, leb-true, le-leb, eqb-true, eq-eqb}
 use Rattle.format_fields.specs.Lists.{keep}
-use Rattle.format_fields.specs.Keyed.{Order, below, same, above, ordered, order, risingFrom, rising, place, insert, union, holds, agree}
+use Rattle.format_fields.specs.Keyed.{Order, below, same, above, ordered, order, rising_from, rising, place, insert, union, holds, agree}
 use Rattle.format_fields.proofs.Truth.{Mem, by_test, and_both, both_and, or_cases, or_right, or_left, not_true, not_both, all_mem, mem_all, any_mem, mem_any}
 
 -- What the order of two keys says.
@@ -32,18 +32,18 @@ module _ {A : Type 0} (key : A → ℕ) where
   From n [] = Unit {0}
   From n (x ∷ l) = (n ≤ key x) × From (suc (key x)) l
 
-  pub from_rising : (n : ℕ) (l : List A) → risingFrom key n l ≡ true → From n l
-  unfolding risingFrom
+  pub from_rising : (n : ℕ) (l : List A) → rising_from key n l ≡ true → From n l
+  unfolding rising_from
   from_rising n [] e = tt
   from_rising n (x ∷ l) e =
-      let r = and_both (leb n (key x)) (risingFrom key (suc (key x)) l) e in
+      let r = and_both (leb n (key x)) (rising_from key (suc (key x)) l) e in
       (leb-true n (key x) r.0, from_rising (suc (key x)) l r.1)
 
-  pub rising_from : (n : ℕ) (l : List A) → From n l → risingFrom key n l ≡ true
-  unfolding risingFrom
-  rising_from n [] f = refl
-  rising_from n (x ∷ l) f =
-      both_and (leb n (key x)) (risingFrom key (suc (key x)) l) (le-leb n (key x) f.0) (rising_from (suc (key x)) l f.1)
+  pub rising_from_lem : (n : ℕ) (l : List A) → From n l → rising_from key n l ≡ true
+  unfolding rising_from
+  rising_from_lem n [] f = refl
+  rising_from_lem n (x ∷ l) f =
+      both_and (leb n (key x)) (rising_from key (suc (key x)) l) (le-leb n (key x) f.0) (rising_from_lem (suc (key x)) l f.1)
 
   abbrev pub Rising : List A → Type 0
   Rising l = From 0 l
@@ -54,7 +54,7 @@ module _ {A : Type 0} (key : A → ℕ) where
 
   pub rising_is : (l : List A) → Rising l → rising key l ≡ true
   unfolding rising
-  rising_is l f = rising_from 0 l f
+  rising_is l f = rising_from_lem 0 l f
 
   -- Members of one key are equal.
   abbrev pub Agree : List A → List A → Type 0
@@ -209,9 +209,9 @@ module _ {A : Type 0} (alike : A → A → Bool) (alike_equal : (a b : A) → al
   mem_holds l a m = mem_any (alike a) l a m (equal_alike a)
 
   module _ (key : A → ℕ) where
-    pub agree-holds : (l m : List A) → agree key alike l m ≡ true → Agree key l m
+    pub agree_holds : (l m : List A) → agree key alike l m ≡ true → Agree key l m
     unfolding agree
-    agree-holds l m e a b p q k =
+    agree_holds l m e a b p q k =
         ⊎_elim
         (λ n. not_both (eq-eqb (key a) (key b) k) (not_true (eqb (key a) (key b)) n))
         (λ n. alike_equal a b n)

@@ -7,7 +7,7 @@ use native.Mathlib.Numerals.{add-one}
 use lib.ListN.{length, get_or}
 use borrow.Author.Tests.{lt-ltb, le-ltb, eq-eqb, ne_eqb}
 use Rattle.format_fields.specs.Fields.{pair_at}
-use Rattle.format_fields.specs.Keyed.{risingFrom}
+use Rattle.format_fields.specs.Keyed.{rising_from}
 use Rattle.format_fields.specs.Inner.Places.{field_end, places_from, key_at, slot_at, item_order, order_at}
 use Rattle.format_fields.proofs.Lists.{rising_stop, rising_next}
 use Rattle.format_fields.proofs.Places.{pass_done, pass_next}
@@ -42,13 +42,13 @@ module _ (tag : ℕ) (s : List ℕ) (p : ℕ) (et : tag ≡ get_or s p 0) where
   order_mapping h i e = cc (le-ltb tag 0x28 h, eq-eqb tag 0x28 i)
 
   module _ {x n : ℕ} (h : 0x28 ≤ tag) (i : tag ≡ 0x28 → ⊥) (e : x ≡ pair_at s (p + 3)) (en : n ≡ pair_at s (p + 1)) where
-    pub order-short : n < 3 → (32 + x) * 256 ≡ item_order s p
+    pub order_short : n < 3 → (32 + x) * 256 ≡ item_order s p
     unfolding item_order
-    order-short k = cc (le-ltb tag 0x28 h, ne_eqb tag 0x28 i, lt-ltb n 3 k)
+    order_short k = cc (le-ltb tag 0x28 h, ne_eqb tag 0x28 i, lt-ltb n 3 k)
 
-    pub order-clause : {y : ℕ} → 3 ≤ n → y ≡ get_or s (p + 5) 0 → (32 + x) * 256 + y ≡ item_order s p
+    pub order_clause : {y : ℕ} → 3 ≤ n → y ≡ get_or s (p + 5) 0 → (32 + x) * 256 + y ≡ item_order s p
     unfolding item_order
-    order-clause k d = cc (le-ltb tag 0x28 h, ne_eqb tag 0x28 i, le-ltb n 3 k)
+    order_clause k d = cc (le-ltb tag 0x28 h, ne_eqb tag 0x28 i, le-ltb n 3 k)
 
 pub order_item : (leading x : ℕ) (s : List ℕ) (p : ℕ) → leading ≡ 0x22 → x ≡ item_order s p → x ≡ order_at leading s p
 unfolding order_at
@@ -58,17 +58,17 @@ pub order_other : (leading x : ℕ) (s : List ℕ) (p : ℕ) → (leading ≡ 0x
 unfolding order_at
 order_other leading x s p h e = cc (ne_eqb leading 0x22 h)
 
-module _ (first least : ℕ) (s : List ℕ) (p : ℕ) (all : Bool) (inv : risingFrom (order_at first s) least (places_from s p) ≡ all) where
+module _ (first least : ℕ) (s : List ℕ) (p : ℕ) (all : Bool) (inv : rising_from (order_at first s) least (places_from s p) ≡ all) where
   pub keys_done : length s ≤ p → true ≡ all
-  unfolding risingFrom
-  keys_done h = pass_done (risingFrom (order_at first s) least) s p all inv h
+  unfolding rising_from
+  keys_done h = pass_done (rising_from (order_at first s) least) s p all inv h
 
   pub keys_stop : (key : ℕ) → p < length s → key ≡ order_at first s p → key < least → false ≡ all
   keys_stop key h e k =
-      rising_stop (order_at first s) least p _ (pass_next (risingFrom (order_at first s) least) s p all inv _ h refl) (rw e at k)
+      rising_stop (order_at first s) least p _ (pass_next (rising_from (order_at first s) least) s p all inv _ h refl) (rw e at k)
 
   pub keys_next : (key end : ℕ) → p < length s → key ≡ order_at first s p → end ≡ field_end s p → least ≤ key
-      → risingFrom (order_at first s) (key + 1) (places_from s end) ≡ all
+      → rising_from (order_at first s) (key + 1) (places_from s end) ≡ all
   keys_next key end h e d k =
       rw (add-one, e)
-      (rising_next (order_at first s) least p _ (pass_next (risingFrom (order_at first s) least) s p all inv end h d) (rw e at k))
+      (rising_next (order_at first s) least p _ (pass_next (rising_from (order_at first s) least) s p all inv end h d) (rw e at k))

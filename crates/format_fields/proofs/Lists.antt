@@ -12,7 +12,7 @@ use borrow.Author.Tests.{le-leb, lt-leb}
 use Rattle.format_fields.specs.Lists.{all, any, before, is_some}
 use Rattle.format_fields.proofs.Truth.{and_both}
 pub use Rattle.format_fields.proofs.Truth.{by_test}
-use Rattle.format_fields.specs.Keyed.{risingFrom}
+use Rattle.format_fields.specs.Keyed.{rising_from}
 
 -- Lists that are equal, by their first elements and what follows them.
 pub cons_both : {A : Type 0} {x y : A} {r s : List A} → x ∷ r ≡ y ∷ s → (x ≡ y) × (r ≡ s)
@@ -36,13 +36,13 @@ module _ {A : Type 0} (f : A → Bool) (a : A) (l : List A) {x : Bool} where
   unfolding any
   any_next e h = rw h at e
 
-module _ {A : Type 0} (key : A → ℕ) (n : ℕ) (a : A) (l : List A) {x : Bool} (e : risingFrom key n (a ∷ l) ≡ x) where
+module _ {A : Type 0} (key : A → ℕ) (n : ℕ) (a : A) (l : List A) {x : Bool} (e : rising_from key n (a ∷ l) ≡ x) where
   pub rising_stop : key a < n → false ≡ x
-  unfolding risingFrom
+  unfolding rising_from
   rising_stop h = rw (lt-leb n (key a) h) at e
 
-  pub rising_next : n ≤ key a → risingFrom key (suc (key a)) l ≡ x
-  unfolding risingFrom
+  pub rising_next : n ≤ key a → rising_from key (suc (key a)) l ≡ x
+  unfolding rising_from
   rising_next h = rw (le-leb n (key a) h) at e
 
 -- Every element passes two tests if every element passes both.
@@ -99,8 +99,8 @@ any_swap f (a ∷ l) m = ap (λ (b : Bool). any (f a) m || b) (any_swap f l m) �
 
 -- Keys of a mapped list.
 pub rising_map : {A B : Type 0} (key : B → ℕ) (g : A → B) (mine : A → ℕ) → ((a : A) → key (g a) ≡ mine a) → (n : ℕ) (l : List A)
-    → risingFrom key n (map g l) ≡ risingFrom mine n l
-unfolding risingFrom
+    → rising_from key n (map g l) ≡ rising_from mine n l
+unfolding rising_from
 rising_map key g mine same n [] = refl
 rising_map key g mine same n (a ∷ l) = rw (same a, rising_map key g mine same (suc (mine a)) l)
 

@@ -71,25 +71,25 @@ module _ {X : Type 0} (pass : List ℕ → X) (s : List ℕ) (p : ℕ) (x : X) (
 -- A pass that asks whether every place passes the test f, and one that asks whether some place does.
 module _ (f : ℕ → Bool) (s : List ℕ) (p : ℕ) (x : Bool) where
   module _ (inv : all f (places_from s p) ≡ x) where
-    pub every-done : length s ≤ p → true ≡ x
+    pub every_done : length s ≤ p → true ≡ x
     unfolding all
-    every-done h = pass_done (all f) s p x inv h
+    every_done h = pass_done (all f) s p x inv h
 
     module _ (b : Bool) (eb : b ≡ f p) (end : ℕ) (ee : end ≡ field_end s p) (here : p < length s) where
-      pub every-stop : b ≡ false → false ≡ x
-      every-stop h = all_stop f p _ (pass_next (all f) s p x inv end here ee) (sym eb ∙ h)
+      pub every_stop : b ≡ false → false ≡ x
+      every_stop h = all_stop f p _ (pass_next (all f) s p x inv end here ee) (sym eb ∙ h)
 
-      pub every-next : b ≡ true → all f (places_from s end) ≡ x
-      every-next h = all_next f p _ (pass_next (all f) s p x inv end here ee) (sym eb ∙ h)
+      pub every_next : b ≡ true → all f (places_from s end) ≡ x
+      every_next h = all_next f p _ (pass_next (all f) s p x inv end here ee) (sym eb ∙ h)
 
   module _ (inv : any f (places_from s p) ≡ x) where
-    pub some-done : length s ≤ p → false ≡ x
+    pub some_done : length s ≤ p → false ≡ x
     unfolding any
-    some-done h = pass_done (any f) s p x inv h
+    some_done h = pass_done (any f) s p x inv h
 
     module _ (b : Bool) (eb : b ≡ f p) (end : ℕ) (ee : end ≡ field_end s p) (here : p < length s) where
-      pub some-stop : b ≡ true → true ≡ x
-      some-stop h = any_stop f p _ (pass_next (any f) s p x inv end here ee) (sym eb ∙ h)
+      pub some_stop : b ≡ true → true ≡ x
+      some_stop h = any_stop f p _ (pass_next (any f) s p x inv end here ee) (sym eb ∙ h)
 
       pub some_next : b ≡ false → any f (places_from s end) ≡ x
       some_next h = any_next f p _ (pass_next (any f) s p x inv end here ee) (sym eb ∙ h)
@@ -105,15 +105,15 @@ module _ (test : ℕ → Bool) (s : List ℕ) (last p : ℕ) (x : Bool) (inv : t
     unfolding tags_ordered
     turn = rw eb (pass_next (tags_ordered test s last) s p x inv end here ee)
 
-    pub ordered-stop : b ≡ false → false ≡ x
-    ordered-stop h = rw h at turn
+    pub ordered_stop : b ≡ false → false ≡ x
+    ordered_stop h = rw h at turn
 
     module _ (good : b ≡ true) (tag : ℕ) (et : tag ≡ get_or s p 0) where
-      pub ordered-falls : tag < last → false ≡ x
-      ordered-falls h = rw (good, ← et, lt-leb last tag h) at turn
+      pub ordered_falls : tag < last → false ≡ x
+      ordered_falls h = rw (good, ← et, lt-leb last tag h) at turn
 
-      pub ordered-next : last ≤ tag → tags_ordered test s tag (places_from s end) ≡ x
-      ordered-next h = rw (good, ← et, le-leb last tag h) at turn
+      pub ordered_next : last ≤ tag → tags_ordered test s tag (places_from s end) ≡ x
+      ordered_next h = rw (good, ← et, le-leb last tag h) at turn
 
 -- Where every place from p on passes, the one at p does, and every further one.
 pub every_here : (f : ℕ → Bool) (s : List ℕ) (p : ℕ) → all f (places_from s p) ≡ true → p < length s
@@ -156,12 +156,12 @@ module _ (s : List ℕ) (p : ℕ) where
       record { cut = λ z. lt-leb _ _ k; whole = λ z. absurd (z refl) }
 
   module _ (e : ℕ) (ee : e ≡ field_end s p) where
-    pub cut-end : length s < e → EndIfWhole s p 0
+    pub cut_end : length s < e → EndIfWhole s p 0
     unfolding is_whole
-    cut-end h = record { cut = λ z. lt-leb _ _ (rw ee at h); whole = λ z. absurd (z refl) }
+    cut_end h = record { cut = λ z. lt-leb _ _ (rw ee at h); whole = λ z. absurd (z refl) }
 
-    pub end-inside : e ≤ length s → EndIfWhole s p e
-    end-inside h = record {
+    pub end_inside : e ≤ length s → EndIfWhole s p e
+    end_inside h = record {
       cut = λ z. absurd (omega (arith, end_past s p));
       whole = λ z. record { is = ee; past = rw ee (end_past s p); fits = h };
     }

@@ -54,10 +54,10 @@ module _ (s : List ℕ) (p f : ℕ) where
     pub rest : length (drop (p + 1) s) ≡ length s - (p + 1)
     rest = length-drop (p + 1) s
 
-    split-whole : field_end s p ≤ length s
+    split_whole : field_end s p ≤ length s
         → split_fields (suc f) (drop p s) ≡ before (some (field_at s p)) (split_fields f (drop (field_end s p) s))
     unfolding split_fields field_end field_at
-    split-whole h =
+    split_whole h =
         let l : 2 + pair_at s (p + 1) ≤ length (drop (p + 1) s) = rw rest (omega arith) in
         let d : p + 1 + 2 ≡ p + 3 = omega arith in
         let g : p + 1 + (2 + pair_at s (p + 1)) ≡ p + 3 + pair_at s (p + 1) = omega arith in
@@ -94,7 +94,7 @@ split_read (suc f) s p h =
     rw (in_next s p f d) (by_test (leb (field_end s p) (length s))
     (λ k.
     let w : field_end s p ≤ length s = leb-true _ _ k in
-    split-whole s p f d w
+    split_whole s p f d w
     ∙ (ap (λ (o : Option (List Field)). before (some (field_at s p)) o) (split_read f s (field_end s p) m) ∙ sym (read_whole s p (places_in f s (field_end s p)) w)))
     (λ k. let w : length s < field_end s p = leb-false _ _ k in split_cut s p f d w ∙ sym (read_cut s p (places_in f s (field_end s p)) w))))
 
@@ -121,12 +121,12 @@ module _ (s : List ℕ) (p : ℕ) where
         let left = drop (field_end s p) s in
         let a : length left < length (drop p s) = simp length-drop (omega (arith, end_past s p)) in
         let b : length left < suc (length left) = omega arith in
-        split-whole s p (length (drop p s)) in-s h
+        split_whole s p (length (drop p s)) in-s h
         ∙ ap (λ (o : Option (List Field)). before (some (field_at s p)) o) (split_enough (length (drop p s)) (suc (length left)) left a b)
 
-    pub fields-cut : length s < field_end s p → fields_of (drop p s) ≡ none
+    pub fields_cut : length s < field_end s p → fields_of (drop p s) ≡ none
     unfolding fields_of
-    fields-cut h = split_cut s p (length (drop p s)) in-s h
+    fields_cut h = split_cut s p (length (drop p s)) in-s h
 
 -- The contents of the whole field at p: their length, a number in them, their first two bytes, and what comes after those.
 module _ (s : List ℕ) (p : ℕ) (w : is_whole s p ≡ true) where

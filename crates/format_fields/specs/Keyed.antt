@@ -19,13 +19,13 @@ order m n = ordered (ltb m n) (ltb n m)
 
 module _ {A : Type 0} (key : A → ℕ) where
   -- Each key is at least n, and above the one before it.
-  unfoldable pub risingFrom : ℕ → List A → Bool
-  risingFrom n [] = true
-  risingFrom n (a ∷ l) = leb n (key a) && risingFrom (suc (key a)) l
+  unfoldable pub rising_from : ℕ → List A → Bool
+  rising_from n [] = true
+  rising_from n (a ∷ l) = leb n (key a) && rising_from (suc (key a)) l
 
   -- The keys rise strictly: in order, and none twice.
   unfoldable pub rising : List A → Bool
-  rising l = risingFrom 0 l
+  rising l = rising_from 0 l
 
   -- a goes before b, in its place, or further on into what follows b.
   abbrev pub place : A → A → List A → List A → Order → List A

@@ -76,9 +76,9 @@ module _ (s : List ℕ) (start kinds : List Bool) (p : ℕ) (inv : mark_classes 
       record { marks = sym (unmarked s kinds (places_from s p) t) ∙ inv; results = results; whole = whole; productions = t }
 
   module _ (here : p < length s) (tag : get_or s p 0 ≡ 0x11) (e : ℕ) (ee : e ≡ field_end s p) where
-    pub classes-next : (k : ℕ) → k ≡ get_or s (p + 3) 0 → mark_classes s (set kinds k true) (places_from s e) ≡ mark_classes s start (places s)
+    pub classes_next : (k : ℕ) → k ≡ get_or s (p + 3) 0 → mark_classes s (set kinds k true) (places_from s e) ≡ mark_classes s start (places s)
     unfolding mark_classes
-    classes-next k ek =
+    classes_next k ek =
         ap (λ (t : List Bool). mark_classes s t (places_from s e)) (class_mark s kinds p k tag ek)
         ∙ pass_next (mark_classes s kinds) s p (mark_classes s start (places s)) inv e here ee
 

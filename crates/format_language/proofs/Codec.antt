@@ -112,11 +112,11 @@ unfolding range_in step_bytes
 class_sizes c h =
     ⊎_elim
     (λ e. let n = eqb-true (length c) 5 e in rw n (omega arith))
-    (λ e. let n = eqb-true (length c) 7 e in rw n (step-sizes (pair_at c 5)))
+    (λ e. let n = eqb-true (length c) 7 e in rw n (step_sizes (pair_at c 5)))
     (or_cases (eqb (length c) 5) (eqb (length c) 7) h)
   where
-    step-sizes : (n : ℕ) → suc (suc (suc (suc (suc (length (cond (eqb n 1) [] (two_bytes n))))))) ≤ 7
-    step-sizes n = by_test (eqb n 1) (λ e. rw e (omega arith)) (λ e. rw e (omega arith))
+    step_sizes : (n : ℕ) → suc (suc (suc (suc (suc (length (cond (eqb n 1) [] (two_bytes n))))))) ≤ 7
+    step_sizes n = by_test (eqb n 1) (λ e. rw e (omega arith)) (λ e. rw e (omega arith))
 
 -- It has at most as many bytes as it is read from.
 entry_sizes : (f : Field) (e : Entry) → entry_of f ≡ some e → length (contents_of (entry_field e)) ≤ length (contents_of f)

@@ -108,8 +108,8 @@ module _ (c d : Range) (some : c.low ≤ c.high) (steps : 0 < c.step) where
     from : Steps d c.low
     from = steps_of d c.low low
 
-    pub test-single : c.high - c.low < c.step → true ≡ range_within c d
-    test-single h =
+    pub test_single : c.high - c.low < c.step → true ≡ range_within c d
+    test_single h =
         sym (all_within_lem c d λ v k.
         let s = steps_of c v k in
         let e = s.is in
@@ -119,8 +119,8 @@ module _ (c d : Range) (some : c.low ≤ c.high) (steps : 0 < c.step) where
         rw y low)
 
     module _ (more : c.step ≤ c.high - c.low) where
-      pub test-step : (c.step % d.step ≡ 0 → ⊥) → false ≡ range_within c d
-      test-step h =
+      pub test_step : (c.step % d.step ≡ 0 → ⊥) → false ≡ range_within c d
+      test_step h =
           sym (refuted (range_within c d) λ w.
           let next : Steps c (c.low + c.step) = record { times = 1; is = omega (arith, one-mul c.step); most = omega arith } in
           let l = from in
@@ -134,11 +134,11 @@ module _ (c d : Range) (some : c.low ≤ c.high) (steps : 0 < c.step) where
         abbrev last : ℕ
         last = c.low + (c.high - c.low - (c.high - c.low) % c.step)
 
-        last-is : last ≡ c.low + (c.high - c.low) / c.step * c.step
-        last-is = let e = div-add-mod' (c.high - c.low) c.step in omega arith
+        last_is : last ≡ c.low + (c.high - c.low) / c.step * c.step
+        last_is = let e = div-add-mod' (c.high - c.low) c.step in omega arith
 
-        last-steps : Steps c last
-        last-steps = record { times = (c.high - c.low) / c.step; is = last-is; most = omega arith }
+        last_steps : Steps c last
+        last_steps = record { times = (c.high - c.low) / c.step; is = last_is; most = omega arith }
 
         contained : last ≤ d.high → (v : ℕ) → in_range c v ≡ true → in_range d v ≡ true
         contained h v k =
@@ -146,7 +146,7 @@ module _ (c d : Range) (some : c.low ≤ c.high) (steps : 0 < c.step) where
             let i = s.is in
             let m = s.most in
             let b = below s.times c.step (c.high - c.low) steps (omega arith) in
-            let z = last-is in
+            let z = last_is in
             let l = from in
             let f = l.is in
             let r = c.step / d.step in
@@ -155,11 +155,11 @@ module _ (c d : Range) (some : c.low ≤ c.high) (steps : 0 < c.step) where
             ∙ ap (λ (x : ℕ). l.times * d.step + x) (mul_assoc s.times r d.step ∙ ap (λ (x : ℕ). s.times * x) (whole c.step d.step divides)) in
             of_steps d v (record { times = l.times + s.times * r; is = omega arith; most = omega arith })
 
-        pub test-last : (x : ℕ) → x ≡ last → leb x d.high ≡ range_within c d
-        test-last x ex =
+        pub test_last : (x : ℕ) → x ≡ last → leb x d.high ≡ range_within c d
+        test_last x ex =
             same_truth (leb x d.high) (range_within c d)
             (λ t. all_within_lem c d (contained (omega (arith, ex, leb-true x d.high t))))
-            (λ w. let n = steps_of d last (value_within c d w last (of_steps c last last-steps)) in le-leb x d.high (omega (arith, ex, n.most)))
+            (λ w. let n = steps_of d last (value_within c d w last (of_steps c last last_steps)) in le-leb x d.high (omega (arith, ex, n.most)))
 
 -- ---- the bytes of a class
 module _ (s : List ℕ) (p : ℕ) (h : IsClass s p) where
@@ -170,27 +170,27 @@ module _ (s : List ℕ) (p : ℕ) (h : IsClass s p) where
 
   -- the low byte of its length tells which it is
   module _ (b : ℕ) (eb : b ≡ get_or s (p + 2) 0) where
-    pub step-one : (b ≡ 7 → ⊥) → (1 ≡ step_at s p) × (0 < 1)
+    pub step_one : (b ≡ 7 → ⊥) → (1 ≡ step_at s p) × (0 < 1)
     unfolding step_at pair_at
-    step-one n =
+    step_one n =
         let d : p + 1 + 1 ≡ p + 2 = omega arith in
         let five : size_at s p ≡ 5 = ⊎_elim (λ e. e) (λ e. absurd (n (let g : get_or s (p + 1) 0 * 256 + get_or s (p + 2) 0 ≡ 7 = rw d at e in omega arith))) h.size in
         (rw five refl, omega arith)
 
-    size-seven : b ≡ 7 → size_at s p ≡ 7
+    size_seven : b ≡ 7 → size_at s p ≡ 7
     unfolding pair_at
-    size-seven n =
+    size_seven n =
         let d : p + 1 + 1 ≡ p + 2 = omega arith in
         ⊎_elim (λ e. let g : get_or s (p + 1) 0 * 256 + get_or s (p + 2) 0 ≡ 5 = rw d at e in absurd (omega arith)) (λ e. e) h.size
 
     pub step_in : b ≡ 7 → p + 8 + 1 < length s
     unfolding field_end
-    step_in n = let f = h.fits in let z = size-seven n in omega arith
+    step_in n = let f = h.fits in let z = size_seven n in omega arith
 
-    pub step-read : b ≡ 7 → (x : ℕ) → x ≡ pair_at s (p + 8) → (x ≡ step_at s p) × (0 < x)
+    pub step_read : b ≡ 7 → (x : ℕ) → x ≡ pair_at s (p + 8) → (x ≡ step_at s p) × (0 < x)
     unfolding step_at
-    step-read n x ex =
-        let z : x ≡ step_at s p = cc (eq-eqb (size_at s p) 7 (size-seven n)) in
+    step_read n x ex =
+        let z : x ≡ step_at s p = cc (eq-eqb (size_at s p) 7 (size_seven n)) in
         (z, omega (arith, z, h.step))
 
 -- in_range: low, high and step of the class at p
@@ -200,19 +200,19 @@ module _ (s : List ℕ) (p v low : ℕ) (el : low ≡ pair_at s (p + 4)) where
   value_below h = cc (lt-leb low v h)
 
   module _ (least : low ≤ v) (high : ℕ) (eh : high ≡ pair_at s (p + 6)) where
-    pub value-above : high < v → false ≡ in_range (class_range s p) v
+    pub value_above : high < v → false ≡ in_range (class_range s p) v
     unfolding in_range class_range
-    value-above h = cc (le-leb low v least, lt-leb v high h)
+    value_above h = cc (le-leb low v least, lt-leb v high h)
 
     module _ (most : v ≤ high) (step : ℕ) (es : step ≡ step_at s p) where
-      pub value-steps : eqb ((v - low) % step) 0 ≡ in_range (class_range s p) v
+      pub value_steps : eqb ((v - low) % step) 0 ≡ in_range (class_range s p) v
       unfolding in_range class_range
-      value-steps = cc (le-leb low v least, le-leb v high most)
+      value_steps = cc (le-leb low v least, le-leb v high most)
 
-      pub value-single : step ≡ 1 → true ≡ in_range (class_range s p) v
-      value-single h =
+      pub value_single : step ≡ 1 → true ≡ in_range (class_range s p) v
+      value_single h =
           let e : (v - low) % step ≡ 0 = rw h (omega arith) in
-          sym (eq-eqb ((v - low) % step) 0 e) ∙ value-steps
+          sym (eq-eqb ((v - low) % step) 0 e) ∙ value_steps
 
 -- range_within: the numbers of the classes at p of s and at q of t
 module _ (s : List ℕ) (p : ℕ) (t : List ℕ) (q : ℕ) (h : IsClass s p) (low : ℕ) (el : low ≡ pair_at s (p + 4)) where
@@ -225,17 +225,17 @@ module _ (s : List ℕ) (p : ℕ) (t : List ℕ) (q : ℕ) (h : IsClass s p) (lo
 
   module _ (in-low : in_range (class_range t q) low ≡ true) (high : ℕ) (eh : high ≡ pair_at s (p + 6)) where
     module _ (step : ℕ) (es : step ≡ step_at s p) where
-      pub span-single : high - low < step → true ≡ Within
+      pub span_single : high - low < step → true ≡ Within
       unfolding class_range
-      span-single e = test-single (class_range s p) (class_range t q) h.range h.step (rw el at in-low) (omega arith)
+      span_single e = test_single (class_range s p) (class_range t q) h.range h.step (rw el at in-low) (omega arith)
 
       module _ (more : step ≤ high - low) (other : ℕ) (eo : other ≡ step_at t q) where
-        pub step-out : (step % other ≡ 0 → ⊥) → false ≡ Within
+        pub step_out : (step % other ≡ 0 → ⊥) → false ≡ Within
         unfolding class_range
-        step-out e = test-step (class_range s p) (class_range t q) h.range h.step (rw el at in-low) (omega arith) (rw (es, eo) at e)
+        step_out e = test_step (class_range s p) (class_range t q) h.range h.step (rw el at in-low) (omega arith) (rw (es, eo) at e)
 
-        pub last-in : step % other ≡ 0 → (bound : ℕ) → bound ≡ pair_at t (q + 6) → leb (low + (high - low - (high - low) % step)) bound ≡ Within
+        pub last_in : step % other ≡ 0 → (bound : ℕ) → bound ≡ pair_at t (q + 6) → leb (low + (high - low - (high - low) % step)) bound ≡ Within
         unfolding class_range
-        last-in e bound eb =
-            rw eb (test-last (class_range s p) (class_range t q) h.range h.step (rw el at in-low) (omega arith) (rw (es, eo) at e)
+        last_in e bound eb =
+            rw eb (test_last (class_range s p) (class_range t q) h.range h.step (rw el at in-low) (omega arith) (rw (es, eo) at e)
             (low + (high - low - (high - low) % step)) (rw (el, eh, es)))

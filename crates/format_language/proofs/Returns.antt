@@ -29,11 +29,11 @@ module _ (s : List ℕ) (q e : ℕ) (x : Bool) (inv : all is_kind (slice q e s) 
   kinds_done h = part_done (all is_kind) s q e x inv h
 
   module _ (fits : e ≤ length s) (here : q < e) where
-    pub kinds-stop : 32 ≤ get_or s q 0 → false ≡ x
-    kinds-stop h = all_stop is_kind (get_or s q 0) _ (part_next (all is_kind) s q e x inv here fits) (le-ltb _ _ h)
+    pub kinds_stop : 32 ≤ get_or s q 0 → false ≡ x
+    kinds_stop h = all_stop is_kind (get_or s q 0) _ (part_next (all is_kind) s q e x inv here fits) (le-ltb _ _ h)
 
-    pub kinds-next : get_or s q 0 < 32 → all is_kind (slice (q + 1) e s) ≡ x
-    kinds-next h = all_next is_kind (get_or s q 0) _ (part_next (all is_kind) s q e x inv here fits) (lt-ltb _ _ h)
+    pub kinds_next : get_or s q 0 < 32 → all is_kind (slice (q + 1) e s) ≡ x
+    kinds_next h = all_next is_kind (get_or s q 0) _ (part_next (all is_kind) s q e x inv here fits) (lt-ltb _ _ h)
 
 -- step_whole: n is the length of the contents
 module _ (s : List ℕ) (p n : ℕ) (en : n ≡ size_at s p) where
@@ -42,13 +42,13 @@ module _ (s : List ℕ) (p n : ℕ) (en : n ≡ size_at s p) where
   step_five h = (cc (eq-eqb n 5 h), λ e. omega arith)
 
   module _ (other : n ≡ 5 → ⊥) where
-    pub step-none : (n ≡ 7 → ⊥) → (false ≡ step_whole s p) × (false ≡ true → 5 ≤ n)
+    pub step_none : (n ≡ 7 → ⊥) → (false ≡ step_whole s p) × (false ≡ true → 5 ≤ n)
     unfolding step_whole
-    step-none h = (cc (ne_eqb n 5 other, ne_eqb n 7 h), λ e. false_true e)
+    step_none h = (cc (ne_eqb n 5 other, ne_eqb n 7 h), λ e. false_true e)
 
-    pub step-seven : n ≡ 7 → (x : ℕ) → x ≡ pair_at s (p + 8) → (not (eqb x 0) ≡ step_whole s p) × (not (eqb x 0) ≡ true → 5 ≤ n)
+    pub step_seven : n ≡ 7 → (x : ℕ) → x ≡ pair_at s (p + 8) → (not (eqb x 0) ≡ step_whole s p) × (not (eqb x 0) ≡ true → 5 ≤ n)
     unfolding step_whole step_at
-    step-seven h x ex = (cc (ne_eqb n 5 other, eq-eqb n 7 h, not_zero x), λ e. omega arith)
+    step_seven h x ex = (cc (ne_eqb n 5 other, eq-eqb n 7 h, not_zero x), λ e. omega arith)
 
 -- class_whole and production_whole: n is the length of the contents, k the first byte of it
 module _ (s : List ℕ) (p n k : ℕ) (en : n ≡ size_at s p) (ek : k ≡ get_or s (p + 3) 0) where
@@ -87,13 +87,13 @@ module _ (s : List ℕ) (p tag : ℕ) (et : tag ≡ get_or s p 0) where
   good_class h x ex = cc (eq-eqb tag 0x11 h)
 
   module _ (other : tag ≡ 0x11 → ⊥) where
-    pub good-production : tag ≡ 0x12 → (x : Bool) → x ≡ production_whole s p → x ≡ entry_good s p
+    pub good_production : tag ≡ 0x12 → (x : Bool) → x ≡ production_whole s p → x ≡ entry_good s p
     unfolding entry_good
-    good-production h x ex = cc (ne_eqb tag 0x11 other, eq-eqb tag 0x12 h)
+    good_production h x ex = cc (ne_eqb tag 0x11 other, eq-eqb tag 0x12 h)
 
-    pub good-neither : (tag ≡ 0x12 → ⊥) → false ≡ entry_good s p
+    pub good_neither : (tag ≡ 0x12 → ⊥) → false ≡ entry_good s p
     unfolding entry_good
-    good-neither h = cc (ne_eqb tag 0x11 other, ne_eqb tag 0x12 h)
+    good_neither h = cc (ne_eqb tag 0x11 other, ne_eqb tag 0x12 h)
 
 -- entries_whole
 module _ (s : List ℕ) (p : ℕ) where

@@ -56,19 +56,19 @@ module _ (l b : ℕ) where
     two a d t s k h = then_term t (reads a s) _ _ (λ x r. one d (t && scoped l b x) r (k x) (h x))
 
     -- A let: a number and two operands.
-    let-two : (a d : Sort) {c : Sort} (s : List ℕ) (k : ℕ → Term a → Term d → Term c)
+    let_two : (a d : Sort) {c : Sort} (s : List ℕ) (k : ℕ → Term a → Term d → Term c)
         → ((v : ℕ) (x : Term a) (y : Term d) → scoped l b (k v x y) ≡ (ltb v 16 && (scoped l b x && scoped l b y)))
         → in_scope l b (then (number s) λ v q. then (reads a q) λ x r. then (reads d r) λ y u. some (k v x y, u))
         ≡ next (after_number 16 s) λ q. next (in_scope l b (reads a q)) λ r. next (in_scope l b (reads d r)) λ u. some u
-    let-two a d s k h =
+    let_two a d s k h =
         then_number true 16 s _ _ (λ v r. two a d (ltb v 16) r (k v) (λ x y. h v x y ∙ and_join (ltb v 16) (scoped l b x) (scoped l b y)))
 
     -- Source, target and a body's number.
-    make-three : (s : List ℕ)
+    make_three : (s : List ℕ)
         → in_scope l b (then (reads languages s) λ x q. then (reads languages q) λ y r. then (number r) λ c u. some (make x y c, u))
         ≡ next (in_scope l b (reads languages s)) λ q. next (in_scope l b (reads languages q)) λ r. next (after_number b r) λ u. some u
     unfolding scoped
-    make-three s =
+    make_three s =
         then_term true (reads languages s) _ _ (λ x q.
         then_term (scoped l b x) (reads languages q) _ _ (λ y r.
         then_number (scoped l b x && scoped l b y) b r _ _ (λ c u.
@@ -114,8 +114,8 @@ module _ (l b n : ℕ) where
       sign_at P x 0x43 (two l b (read_term n) languages languages true s sum (λ x y. refl)) λ e3.
       sign_at P x 0x44 (one l b (read_term n) translations true s source_of (λ x. refl)) λ e4.
       sign_at P x 0x45 (one l b (read_term n) translations true s target_of (λ x. refl)) λ e5.
-      sign_at P x 0x46 (let-two l b (read_term n) languages languages s (bind languages) (λ v x y. refl)) λ e6.
-      sign_at P x 0x47 (let-two l b (read_term n) translations languages s (bind translations) (λ v x y. refl)) λ e7.
+      sign_at P x 0x46 (let_two l b (read_term n) languages languages s (bind languages) (λ v x y. refl)) λ e6.
+      sign_at P x 0x47 (let_two l b (read_term n) translations languages s (bind translations) (λ v x y. refl)) λ e7.
       let z : is_sign 1 x ≡ false =
       by_test (is_sign 1 x)
       (λ t.
@@ -128,14 +128,14 @@ module _ (l b n : ℕ) where
   unfolding translation_sign after after_sign after_last first_operand second_operand sign_index has_number any scoped
   translation_level x s =
       let P : ℕ → Type 0 = λ x. in_scope l b (translation_sign (read_term n) x s) ≡ rest x (after_sign l 2 (x ∷ s)) in
-      sign_at P x 0x50 (make-is s) λ e0.
+      sign_at P x 0x50 (make_is s) λ e0.
       sign_at P x 0x51 (number_alone l b 16 s variable (λ v. refl)) λ e1.
       sign_at P x 0x52 (two l b (read_term n) translations languages true s without (λ x y. refl)) λ e2.
       sign_at P x 0x53 (two l b (read_term n) translations translations true s sum (λ x y. refl)) λ e3.
       sign_at P x 0x54 (two l b (read_term n) translations translations true s join (λ x y. refl)) λ e4.
       sign_at P x 0x55 (one l b (read_term n) languages true s identity (λ x. refl)) λ e5.
-      sign_at P x 0x56 (let-two l b (read_term n) languages translations s (bind languages) (λ v x y. refl)) λ e6.
-      sign_at P x 0x57 (let-two l b (read_term n) translations translations s (bind translations) (λ v x y. refl)) λ e7.
+      sign_at P x 0x56 (let_two l b (read_term n) languages translations s (bind languages) (λ v x y. refl)) λ e6.
+      sign_at P x 0x57 (let_two l b (read_term n) translations translations s (bind translations) (λ v x y. refl)) λ e7.
       let z : is_sign 2 x ≡ false =
       by_test (is_sign 2 x)
       (λ t.
@@ -144,10 +144,10 @@ module _ (l b n : ℕ) where
       (λ t. t) in
       cc
     where
-      make-is : (s : List ℕ) → in_scope l b (then (read_term n languages s) λ x q. then (read_term n languages q) λ y r. then (number r) λ c u. some (make x y c, u))
+      make_is : (s : List ℕ) → in_scope l b (then (read_term n languages s) λ x q. then (read_term n languages q) λ y r. then (number r) λ c u. some (make x y c, u))
           ≡ next (in_scope l b (read_term n languages s)) λ q. next (in_scope l b (read_term n languages q)) λ r. after_number b r
-      make-is s =
-          make-three l b (read_term n) s
+      make_is s =
+          make_three l b (read_term n) s
           ∙ ap (λ (f : List ℕ → Option (List ℕ)). next (in_scope l b (read_term n languages s)) λ q. next (in_scope l b (read_term n languages q)) f) (λ i r. last_some (after_number b r) i)
 
   -- One level of either sort.

@@ -46,37 +46,37 @@ module _ (s : List ℕ) (p e : ℕ) (ee : e ≡ field_end s p) where
       ap (λ (n : ℕ). take n (drop (p + 3) s)) n
 
   module _ (tag : ℕ) (et : tag ≡ get_or s p 0) (x : Bool) where
-    pub good-language : tag ≡ 0x30 → x ≡ is_some (entries_of (cut s (p + 3) e)) → x ≡ part_good s p
+    pub good_language : tag ≡ 0x30 → x ≡ is_some (entries_of (cut s (p + 3) e)) → x ≡ part_good s p
     unfolding part_good
-    good-language h ex = cc (lent, eq-eqb tag 0x30 h)
+    good_language h ex = cc (lent, eq-eqb tag 0x30 h)
 
-    pub good-body : (tag ≡ 0x30 → ⊥) → tag ≡ 0x31 → x ≡ is_some (body_of (cut s (p + 3) e)) → x ≡ part_good s p
+    pub good_body : (tag ≡ 0x30 → ⊥) → tag ≡ 0x31 → x ≡ is_some (body_of (cut s (p + 3) e)) → x ≡ part_good s p
     unfolding part_good
-    good-body n h ex = cc (lent, ne_eqb tag 0x30 n, eq-eqb tag 0x31 h)
+    good_body n h ex = cc (lent, ne_eqb tag 0x30 n, eq-eqb tag 0x31 h)
 
-    pub good-term : (tag ≡ 0x30 → ⊥) → (tag ≡ 0x31 → ⊥) → eqb tag 0x32 ≡ part_good s p
+    pub good_term : (tag ≡ 0x30 → ⊥) → (tag ≡ 0x31 → ⊥) → eqb tag 0x32 ≡ part_good s p
     unfolding part_good
-    good-term n h = cc (ne_eqb tag 0x30 n, ne_eqb tag 0x31 h)
+    good_term n h = cc (ne_eqb tag 0x30 n, ne_eqb tag 0x31 h)
 
-    pub rises-language : tag ≡ 0x30 → x ≡ rising (order_at 0x11 (cut s (p + 3) e)) (places (cut s (p + 3) e)) → x ≡ rises_at s p
+    pub rises_language : tag ≡ 0x30 → x ≡ rising (order_at 0x11 (cut s (p + 3) e)) (places (cut s (p + 3) e)) → x ≡ rises_at s p
     unfolding rises_at
-    rises-language h ex = cc (lent, eq-eqb tag 0x30 h)
+    rises_language h ex = cc (lent, eq-eqb tag 0x30 h)
 
-    pub rises-body : (tag ≡ 0x30 → ⊥) → tag ≡ 0x31 → x ≡ rising (order_at 0x22 (cut s (p + 3) e)) (places (cut s (p + 3) e)) → x ≡ rises_at s p
+    pub rises_body : (tag ≡ 0x30 → ⊥) → tag ≡ 0x31 → x ≡ rising (order_at 0x22 (cut s (p + 3) e)) (places (cut s (p + 3) e)) → x ≡ rises_at s p
     unfolding rises_at
-    rises-body n h ex = cc (lent, ne_eqb tag 0x30 n, eq-eqb tag 0x31 h)
+    rises_body n h ex = cc (lent, ne_eqb tag 0x30 n, eq-eqb tag 0x31 h)
 
-    pub rises-term : (tag ≡ 0x30 → ⊥) → (tag ≡ 0x31 → ⊥) → true ≡ rises_at s p
+    pub rises_term : (tag ≡ 0x30 → ⊥) → (tag ≡ 0x31 → ⊥) → true ≡ rises_at s p
     unfolding rises_at
-    rises-term n h = cc (ne_eqb tag 0x30 n, ne_eqb tag 0x31 h)
+    rises_term n h = cc (ne_eqb tag 0x30 n, ne_eqb tag 0x31 h)
 
-    pub clash-other : (tag ≡ 0x30 → ⊥) → false ≡ clash_at s p
+    pub clash_other : (tag ≡ 0x30 → ⊥) → false ≡ clash_at s p
     unfolding clash_at
-    clash-other n = cc (ne_eqb tag 0x30 n)
+    clash_other n = cc (ne_eqb tag 0x30 n)
 
-    pub clash-language : tag ≡ 0x30 → x ≡ results_meet (cut s (p + 3) e) (cut s (p + 3) e) → x ≡ clash_at s p
+    pub clash_language : tag ≡ 0x30 → x ≡ results_meet (cut s (p + 3) e) (cut s (p + 3) e) → x ≡ clash_at s p
     unfolding clash_at
-    clash-language h ex = cc (lent, eq-eqb tag 0x30 h)
+    clash_language h ex = cc (lent, eq-eqb tag 0x30 h)
 
 -- A whole part is a whole field.
 module _ (s : List ℕ) (p : ℕ) where
@@ -108,16 +108,16 @@ module _ (tag : ℕ) (s : List ℕ) (p n x : ℕ) (inv : n + length (keep (tag_i
   count_done h = let e = pass_done (λ l. n + length (keep (tag_is tag s) l)) s p x inv h in omega arith
 
   module _ (end : ℕ) (ee : end ≡ field_end s p) (here : p < length s) (t : ℕ) (et : t ≡ get_or s p 0) where
-    pub count-here : t ≡ tag → n + 1 + length (keep (tag_is tag s) (places_from s end)) ≡ x
+    pub count_here : t ≡ tag → n + 1 + length (keep (tag_is tag s) (places_from s end)) ≡ x
     unfolding keep
-    count-here h =
+    count_here h =
         let e = pass_next (λ l. n + length (keep (tag_is tag s) l)) s p x inv end here ee in
         let d = rw (← et, eq-eqb t tag h) at e in
         omega arith
 
-    pub count-other : (t ≡ tag → ⊥) → n + length (keep (tag_is tag s) (places_from s end)) ≡ x
+    pub count_other : (t ≡ tag → ⊥) → n + length (keep (tag_is tag s) (places_from s end)) ≡ x
     unfolding keep
-    count-other h =
+    count_other h =
         let e = pass_next (λ l. n + length (keep (tag_is tag s) l)) s p x inv end here ee in
         rw (← et, ne_eqb t tag h) at e
 
@@ -127,12 +127,12 @@ module _ (s : List ℕ) (x : Bool) (ex : x ≡ parts_ordered s 0x30 (places s)) 
   whole_unordered h = rw (← ex, h) at (parts_there s)
 
   module _ (xt : x ≡ true) (m : ℕ) (em : m ≡ length (tagged 0x30 s)) where
-    pub whole-languages : 32 < m → false ≡ is_some (pack_parts s)
-    whole-languages h = rw (← ex, xt, ← em, lt-leb m 32 h) at (parts_there s)
+    pub whole_languages : 32 < m → false ≡ is_some (pack_parts s)
+    whole_languages h = rw (← ex, xt, ← em, lt-leb m 32 h) at (parts_there s)
 
     module _ (few : m ≤ 32) (n : ℕ) (en : n ≡ length (tagged 0x31 s)) where
-      pub whole-bodies : 32 < n → false ≡ is_some (pack_parts s)
-      whole-bodies h = rw (← ex, xt, ← em, le-leb m 32 few, ← en, lt-leb n 32 h) at (parts_there s)
+      pub whole_bodies : 32 < n → false ≡ is_some (pack_parts s)
+      whole_bodies h = rw (← ex, xt, ← em, le-leb m 32 few, ← en, lt-leb n 32 h) at (parts_there s)
 
       pub whole_term_lem : n ≤ 32 → (k : ℕ) → k ≡ length (tagged 0x32 s) → eqb k 1 ≡ is_some (pack_parts s)
       whole_term_lem h k ek = rw (← ex, xt, ← em, le-leb m 32 few, ← en, le-leb n 32 h, ← ek) at (parts_there s)
@@ -156,12 +156,12 @@ module _ (s : List ℕ) (p e : ℕ) (ee : e ≡ field_end s p) (tag : ℕ) (et :
         let i : is_some (entries_of (contents_at s p)) ≡ true = rw (← et, eq-eqb tag 0x30 h) at (good_of s p w) in
         entries_there (cut s (p + 3) e) ∙ (ap (λ (c : List ℕ). is_some (entries_of c)) (lent s p e ee) ∙ i)
 
-    pub entries-long-in : tag ≡ 0x30 → all (long_at (cut s (p + 3) e)) (places (cut s (p + 3) e)) ≡ true
-    entries-long-in h = entries_long (cut s (p + 3) e) (entries_in h)
+    pub entries_long_in : tag ≡ 0x30 → all (long_at (cut s (p + 3) e)) (places (cut s (p + 3) e)) ≡ true
+    entries_long_in h = entries_long (cut s (p + 3) e) (entries_in h)
 
-    pub items-long-in : (tag ≡ 0x30 → ⊥) → tag ≡ 0x31 → all (long_at (cut s (p + 3) e)) (places (cut s (p + 3) e)) ≡ true
+    pub items_long_in : (tag ≡ 0x30 → ⊥) → tag ≡ 0x31 → all (long_at (cut s (p + 3) e)) (places (cut s (p + 3) e)) ≡ true
     unfolding part_good
-    items-long-in n h =
+    items_long_in n h =
         let i : is_some (body_of (contents_at s p)) ≡ true = rw (← et, ne_eqb tag 0x30 n, eq-eqb tag 0x31 h) at (good_of s p w) in
         let l : all (long_at (contents_at s p)) (places (contents_at s p)) ≡ true = items_long (contents_at s p) (holds_items _ _ (body_is s p i)).whole in
         ap (λ (c : List ℕ). all (long_at c) (places c)) (lent s p e ee) ∙ l
@@ -235,8 +235,8 @@ module _ (s : List ℕ) (over : Bool) (eo : over ≡ (ltb pack_limit (length s) 
     absent none e h = cc
     absent (some p) e h = false_true (sym h)
 
-    pub broken-refused : {o : Outcome} → there ≡ false → o ≡ Refused Why.BrokenField → o ≡ checked (pack_of s)
-    broken-refused h i = i ∙ sym (absent (pack_parts s) refl (sym et ∙ h))
+    pub broken_refused : {o : Outcome} → there ≡ false → o ≡ Refused Why.BrokenField → o ≡ checked (pack_of s)
+    broken_refused h i = i ∙ sym (absent (pack_parts s) refl (sym et ∙ h))
 
     module _ (whole_is : there ≡ true) where
       held : (p : Pack) × (pack_parts s ≡ some p)
@@ -245,31 +245,31 @@ module _ (s : List ℕ) (over : Bool) (eo : over ≡ (ltb pack_limit (length s) 
       holds : HoldsParts s held.0
       holds = holds_parts s held.0 held.1
 
-      pub each-whole : all (part_whole s) (places s) ≡ true
-      each-whole = holds.parts
+      pub each_whole : all (part_whole s) (places s) ≡ true
+      each_whole = holds.parts
 
       opened : (p : Pack) → pack_parts s ≡ some p → pack_of s ≡ refuse_if (not (pack_rises p)) Why.OutOfOrder (refuse_if (pack_clashes p) Why.ClassIsResult (value p))
       unfolding pack_of
       opened p e = rw (sym eo ∙ within, e)
 
-      rise-is : all (rises_at s) (places s) ≡ pack_rises held.0
+      rise_is : all (rises_at s) (places s) ≡ pack_rises held.0
       unfolding tagged
-      rise-is = let h = holds in rises_places s (places s) h.parts ∙ rw (h.languages, h.bodies)
+      rise_is = let h = holds in rises_places s (places s) h.parts ∙ rw (h.languages, h.bodies)
 
-      clash-all : any (clash_at s) (places s) ≡ pack_clashes held.0
+      clash_all : any (clash_at s) (places s) ≡ pack_clashes held.0
       unfolding tagged
-      clash-all = let h = holds in clash_places s (places s) h.parts ∙ rw h.languages
+      clash_all = let h = holds in clash_places s (places s) h.parts ∙ rw h.languages
 
       chain : checked (pack_of s) ≡ checked (refuse_if (not (all (rises_at s) (places s))) Why.OutOfOrder (refuse_if (any (clash_at s) (places s)) Why.ClassIsResult (value held.0)))
-      chain = rw (rise-is, clash-all) (ap checked (opened held.0 held.1))
+      chain = rw (rise_is, clash_all) (ap checked (opened held.0 held.1))
 
       module _ (rise : Bool) (er : rise ≡ all (rises_at s) (places s)) where
         pub order_refused : {o : Outcome} → rise ≡ false → o ≡ Refused Why.OutOfOrder → o ≡ checked (pack_of s)
         order_refused h i = i ∙ sym (chain ∙ rw (← er, h))
 
         module _ (rises : rise ≡ true) (both : Bool) (eb : both ≡ any (clash_at s) (places s)) where
-          pub clash-refused : {o : Outcome} → both ≡ true → o ≡ Refused Why.ClassIsResult → o ≡ checked (pack_of s)
-          clash-refused h i = i ∙ sym (chain ∙ rw (← er, rises, ← eb, h))
+          pub clash_refused : {o : Outcome} → both ≡ true → o ≡ Refused Why.ClassIsResult → o ≡ checked (pack_of s)
+          clash_refused h i = i ∙ sym (chain ∙ rw (← er, rises, ← eb, h))
 
-          pub pack-accepted : {o : Outcome} → both ≡ false → o ≡ Accepted 0 → o ≡ checked (pack_of s)
-          pack-accepted h i = i ∙ sym (chain ∙ rw (← er, rises, ← eb, h))
+          pub pack_accepted : {o : Outcome} → both ≡ false → o ≡ Accepted 0 → o ≡ checked (pack_of s)
+          pack_accepted h i = i ∙ sym (chain ∙ rw (← er, rises, ← eb, h))

@@ -140,8 +140,8 @@ module _ (s : List ℕ) (at m : ℕ) where
   number_past h = rw (drop_of_length-le s h)
 
   module _ (here : at < length s) (w : ℕ) (ew : w ≡ get_or s at 0) where
-    pub number-over : m ≤ w → none ≡ after_number m (drop at s)
-    number-over h = rw (front s at here) (cc (le-ltb w m h))
+    pub number_over : m ≤ w → none ≡ after_number m (drop at s)
+    number_over h = rw (front s at here) (cc (le-ltb w m h))
 
     pub number_in_lem : w < m → some (drop (at + 1) s) ≡ after_number m (drop at s)
     number_in_lem h = rw (front s at here) (cc (lt-ltb w m h))
@@ -153,32 +153,32 @@ module _ (l sort : ℕ) (s : List ℕ) (at : ℕ) where
   sign_past h = rw (drop_of_length-le s h)
 
   module _ (here : at < length s) (x : ℕ) (ex : x ≡ get_or s at 0) where
-    sign-is : after_sign l sort (drop at s)
+    sign_is : after_sign l sort (drop at s)
         ≡ cond (is_sign sort x) (cond (has_number x && not (eqb x 0x50)) (after_number (cond (eqb x 0x40) l 16) (drop (at + 1) s)) (some (drop (at + 1) s))) none
     unfolding after_sign
-    sign-is = rw (front s at here, ← ex)
+    sign_is = rw (front s at here, ← ex)
 
     pub sign_low : x < 0x30 + 0x10 * sort → none ≡ after_sign l sort (drop at s)
-    sign_low h = cc (sign-is, lt-leb (0x30 + 0x10 * sort) x h)
+    sign_low h = cc (sign_is, lt-leb (0x30 + 0x10 * sort) x h)
 
     module _ (low : 0x30 + 0x10 * sort ≤ x) where
       pub sign_high : 0x38 + 0x10 * sort ≤ x → none ≡ after_sign l sort (drop at s)
-      sign_high h = cc (sign-is, le-leb (0x30 + 0x10 * sort) x low, le-ltb x (0x38 + 0x10 * sort) h)
+      sign_high h = cc (sign_is, le-leb (0x30 + 0x10 * sort) x low, le-ltb x (0x38 + 0x10 * sort) h)
 
       module _ (high : x < 0x38 + 0x10 * sort) (t : Bool) (et : t ≡ has_number x) where
         pub sign_plain : t ≡ false → some (drop (at + 1) s) ≡ after_sign l sort (drop at s)
-        sign_plain h = cc (sign-is, le-leb (0x30 + 0x10 * sort) x low, lt-ltb x (0x38 + 0x10 * sort) high)
+        sign_plain h = cc (sign_is, le-leb (0x30 + 0x10 * sort) x low, lt-ltb x (0x38 + 0x10 * sort) high)
 
         module _ (has : t ≡ true) where
-          pub sign-make : x ≡ 0x50 → some (drop (at + 1) s) ≡ after_sign l sort (drop at s)
-          sign-make h = cc (sign-is, le-leb (0x30 + 0x10 * sort) x low, lt-ltb x (0x38 + 0x10 * sort) high, eq-eqb x 0x50 h)
+          pub sign_make : x ≡ 0x50 → some (drop (at + 1) s) ≡ after_sign l sort (drop at s)
+          sign_make h = cc (sign_is, le-leb (0x30 + 0x10 * sort) x low, lt-ltb x (0x38 + 0x10 * sort) high, eq-eqb x 0x50 h)
 
           module _ (first : x ≡ 0x50 → ⊥) where
-            pub sign-constant : x ≡ 0x40 → after_number l (drop (at + 1) s) ≡ after_sign l sort (drop at s)
-            sign-constant h = cc (sign-is, le-leb (0x30 + 0x10 * sort) x low, lt-ltb x (0x38 + 0x10 * sort) high, ne_eqb x 0x50 first, eq-eqb x 0x40 h)
+            pub sign_constant : x ≡ 0x40 → after_number l (drop (at + 1) s) ≡ after_sign l sort (drop at s)
+            sign_constant h = cc (sign_is, le-leb (0x30 + 0x10 * sort) x low, lt-ltb x (0x38 + 0x10 * sort) high, ne_eqb x 0x50 first, eq-eqb x 0x40 h)
 
-            pub sign-variable : (x ≡ 0x40 → ⊥) → after_number 16 (drop (at + 1) s) ≡ after_sign l sort (drop at s)
-            sign-variable h = cc (sign-is, le-leb (0x30 + 0x10 * sort) x low, lt-ltb x (0x38 + 0x10 * sort) high, ne_eqb x 0x50 first, ne_eqb x 0x40 h)
+            pub sign_variable : (x ≡ 0x40 → ⊥) → after_number 16 (drop (at + 1) s) ≡ after_sign l sort (drop at s)
+            sign_variable h = cc (sign_is, le-leb (0x30 + 0x10 * sort) x low, lt-ltb x (0x38 + 0x10 * sort) high, ne_eqb x 0x50 first, ne_eqb x 0x40 h)
 
 -- last_end
 module _ (b x : ℕ) (u : List ℕ) where
@@ -197,9 +197,9 @@ module _ (l b n sort : ℕ) (s : List ℕ) (at : ℕ) where
   term_none h = cc (eq-eqb sort 0 h)
 
   module _ (is : sort ≡ 0 → ⊥) where
-    pub term-deep : n ≡ 0 → none ≡ after l b n sort (drop at s)
+    pub term_deep : n ≡ 0 → none ≡ after l b n sort (drop at s)
     unfolding after read_term
-    term-deep h = by_test (eqb sort 1) (λ e. cc (ne_eqb sort 0 is)) (λ e. cc (ne_eqb sort 0 is))
+    term_deep h = by_test (eqb sort 1) (λ e. cc (ne_eqb sort 0 is)) (λ e. cc (ne_eqb sort 0 is))
 
     module _ (fits : sort ≤ 2) (more : n ≡ 0 → ⊥) (x : ℕ) (ex : x ≡ get_or s at 0) where
       level : after l b n sort (drop at s) ≡ rest l b (n - 1) x (after_sign l sort (drop at s))
@@ -213,25 +213,25 @@ module _ (l b n sort : ℕ) (s : List ℕ) (at : ℕ) where
           below n h = omega arith
 
       module _ (r : Read) (er : rest_at s r ≡ after_sign l sort (drop at s)) where
-        pub term-sign : r ≡ Broken → none ≡ after l b n sort (drop at s)
-        term-sign h = cc (level)
+        pub term_sign : r ≡ Broken → none ≡ after l b n sort (drop at s)
+        term_sign h = cc (level)
 
         module _ (a : ℕ) (ea : r ≡ End a) (f : ℕ) (ef : f ≡ first_operand x) (q : Read) (eq : rest_at s q ≡ after l b (n - 1) f (drop a s)) where
-          level-2 : after l b n sort (drop at s) ≡ next (rest_at s q) λ v. next (after l b (n - 1) (second_operand x) v) (after_last b x)
-          level-2 = level ∙ rw (← er, ea, eq, ef)
+          level_2 : after l b n sort (drop at s) ≡ next (rest_at s q) λ v. next (after l b (n - 1) (second_operand x) v) (after_last b x)
+          level_2 = level ∙ rw (← er, ea, eq, ef)
 
-          pub term-first : q ≡ Broken → none ≡ after l b n sort (drop at s)
-          term-first h = sym (level-2 ∙ rw h)
+          pub term_first : q ≡ Broken → none ≡ after l b n sort (drop at s)
+          term_first h = sym (level_2 ∙ rw h)
 
           module _ (c : ℕ) (ec : q ≡ End c) (g : ℕ) (eg : g ≡ second_operand x) (o : Read) (eo : rest_at s o ≡ after l b (n - 1) g (drop c s)) where
-            level-3 : after l b n sort (drop at s) ≡ next (rest_at s o) (after_last b x)
-            level-3 = level-2 ∙ rw (ec, eo, eg)
+            level_3 : after l b n sort (drop at s) ≡ next (rest_at s o) (after_last b x)
+            level_3 = level_2 ∙ rw (ec, eo, eg)
 
-            pub term-second : o ≡ Broken → none ≡ after l b n sort (drop at s)
-            term-second h = sym (level-3 ∙ rw h)
+            pub term_second : o ≡ Broken → none ≡ after l b n sort (drop at s)
+            term_second h = sym (level_3 ∙ rw h)
 
             pub term_whole : (d : ℕ) → o ≡ End d → {u : Option (List ℕ)} → u ≡ after_last b x (drop d s) → u ≡ after l b n sort (drop at s)
-            term_whole d ed e = e ∙ sym (level-3 ∙ rw ed)
+            term_whole d ed e = e ∙ sym (level_3 ∙ rw ed)
 
 -- A position that was reached.
 pub end_in : (n : ℕ) (r : Read) (a : ℕ) → r ≡ End a → EndsBy n r → a ≤ n
@@ -269,8 +269,8 @@ module _ (s : List ℕ) (p : Pack) (e : pack_of s ≡ value p) (start l b : ℕ)
   term_refused h i = i ∙ sym (term_finish ∙ rw h)
 
   module _ (a : ℕ) (ea : r ≡ End a) where
-    pub term-left : {o : Outcome} → a ≤ length s → (a ≡ length s → ⊥) → o ≡ Refused Why.IllegalTerm → o ≡ checked (term_of p)
-    term-left k h i = i ∙ sym (term_finish ∙ rw (ea, front s a (omega arith)))
+    pub term_left : {o : Outcome} → a ≤ length s → (a ≡ length s → ⊥) → o ≡ Refused Why.IllegalTerm → o ≡ checked (term_of p)
+    term_left k h i = i ∙ sym (term_finish ∙ rw (ea, front s a (omega arith)))
 
-    pub term-accepted : {o : Outcome} → a ≡ length s → o ≡ Accepted 0 → o ≡ checked (term_of p)
-    term-accepted h i = i ∙ sym (term_finish ∙ rw (ea, drop_of_length-le s {i = a} (omega arith)))
+    pub term_accepted : {o : Outcome} → a ≡ length s → o ≡ Accepted 0 → o ≡ checked (term_of p)
+    term_accepted h i = i ∙ sym (term_finish ∙ rw (ea, drop_of_length-le s {i = a} (omega arith)))

@@ -50,15 +50,15 @@ module _ (tag : ℕ) (s : List ℕ) (p left : ℕ) (x : Option ℕ) (inv : get_e
     place_other h = rw (← et, ne_eqb t tag h) at turn
 
     module _ (h : t ≡ tag) where
-      turn-here : get_elem? (p ∷ keep (tag_is tag s) (places_from s end)) left ≡ x
+      turn_here : get_elem? (p ∷ keep (tag_is tag s) (places_from s end)) left ≡ x
       unfolding keep
-      turn-here = rw (← et, eq-eqb t tag h) at turn
+      turn_here = rw (← et, eq-eqb t tag h) at turn
 
       pub place_here : left ≡ 0 → (q : ℕ) → x ≡ some q → p ≡ q
-      place_here z q e = some_inj (rw z at turn-here ∙ e)
+      place_here z q e = some_inj (rw z at turn_here ∙ e)
 
-      pub place-next : (left ≡ 0 → ⊥) → get_elem? (keep (tag_is tag s) (places_from s end)) (left - 1) ≡ x
-      place-next n = go left n turn-here
+      pub place_next : (left ≡ 0 → ⊥) → get_elem? (keep (tag_is tag s) (places_from s end)) (left - 1) ≡ x
+      place_next n = go left n turn_here
         where
           go : (m : ℕ) → (m ≡ 0 → ⊥) → get_elem? (p ∷ keep (tag_is tag s) (places_from s end)) m ≡ x → get_elem? (keep (tag_is tag s) (places_from s end)) (m - 1) ≡ x
           go zero n e = absurd (n refl)

@@ -12,7 +12,7 @@ use Rattle.outcome.specs.Outcome.{value, refuse_if}
 use Rattle.outcome.specs.declared.Reason.TheVariants.{WrongMapping, WrongClauses, IllegalCode}
 use Rattle.format_fields.specs.Lists.{all, traverse}
 use Rattle.format_fields.specs.Fields.{Field, field, byte_at, fields_of, encode_fields, has_over}
-use Rattle.format_fields.specs.Keyed.{rising, risingFrom}
+use Rattle.format_fields.specs.Keyed.{rising, rising_from}
 use Rattle.format_fields.proofs.Truth.{by_test, none_some, false_true, and_both, both_and, or_false, false_or}
 use Rattle.format_fields.proofs.Codec.{Each, Bytes, contents_of, Codec, refused_value, cond_some, four_tags, front_two, front_three, fields_encode, fields_sound, fields_length, encode_length, Within, not_over, within_over, entries_encode, entries_whole, entries_length, entries_sound}
 use Rattle.format_language.specs.Language.{Language, entry_key, clashes}
@@ -193,18 +193,18 @@ unfolding item_key plain_key number_of
 clause_above r p j c = omega arith
 
 -- Keys that rise keep the mappings in front of the clauses.
-grouped_from : (n : ℕ) (past : Bool) (b : Body) → (past ≡ true → 8192 ≤ n) → risingFrom item_key n b ≡ true → all item_whole b ≡ true → grouped past b ≡ true
-unfolding risingFrom all grouped
+grouped_from : (n : ℕ) (past : Bool) (b : Body) → (past ≡ true → 8192 ≤ n) → rising_from item_key n b ≡ true → all item_whole b ≡ true → grouped past b ≡ true
+unfolding rising_from all grouped
 grouped_from n past [] h r w = refl
 grouped_from n past (mapping s j t ∷ b) h r w =
-    let (r1, r2) = and_both (leb n (item_key (mapping s j t))) (risingFrom item_key (suc (item_key (mapping s j t))) b) r in
+    let (r1, r2) = and_both (leb n (item_key (mapping s j t))) (rising_from item_key (suc (item_key (mapping s j t))) b) r in
     let (w1, w2) = and_both (item_whole (mapping s j t)) (all item_whole b) w in
     let rest = grouped_from (suc (item_key (mapping s j t))) false b (λ e. false_true e) r2 w2 in
     by_test past
     (λ e. absurd (omega (arith, h e, leb-true n (item_key (mapping s j t)) r1, mapping_below_lem s j t w1)))
     (λ e. rw (e, rest))
 grouped_from n past (clause r p j code ∷ b) h k w =
-    let (k1, k2) = and_both (leb n (item_key (clause r p j code))) (risingFrom item_key (suc (item_key (clause r p j code))) b) k in
+    let (k1, k2) = and_both (leb n (item_key (clause r p j code))) (rising_from item_key (suc (item_key (clause r p j code))) b) k in
     let (w1, w2) = and_both (item_whole (clause r p j code)) (all item_whole b) w in
     grouped_from (suc (item_key (clause r p j code))) true b (λ e. omega (arith, clause_above r p j code)) k2 w2
 

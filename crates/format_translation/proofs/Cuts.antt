@@ -39,13 +39,13 @@ module _ (s : List ℕ) (h : (f : Translation) × (translation_of s ≡ value f)
     pub parts_at : Parted s a b h.0
     parts_at = parted s a ea b eb h.0 (translation_parts s h.0 h.1)
 
-    pub target-cut : cut s (a + 3) b ≡ target_in s
+    pub target_cut : cut s (a + 3) b ≡ target_in s
     unfolding target_in
-    target-cut = let w = parts_at in cut_is s (a + 3) b w.target_past w.inside ∙ rw (eb, ea)
+    target_cut = let w = parts_at in cut_is s (a + 3) b w.target_past w.inside ∙ rw (eb, ea)
 
-    pub body-cut : cut s b (length s) ≡ body_in s
+    pub body_cut : cut s b (length s) ≡ body_in s
     unfolding body_in
-    body-cut = rest_is s b ∙ rw (eb, ea)
+    body_cut = rest_is s b ∙ rw (eb, ea)
 
   pub source_at : (3 ≤ a) × (a ≤ length s)
   source_at = let w = parts_at (field_end s a) refl in (w.source_past, omega (arith, w.target_past, w.inside))

@@ -118,9 +118,9 @@ module _ (f : Translation) (below : KindsBelow f) (rises : Rising item_key f.bod
       }
 
   module _ (source_rises : Rising entry_key f.source) (w : Fitting f) where
-    kinds-mapped : kinds_mapped f ≡ true
+    kinds_mapped_lem : kinds_mapped f ≡ true
     unfolding kinds_mapped kinds
-    kinds-mapped =
+    kinds_mapped_lem =
         mem_all _ kinds (λ k n. equal_beq _ _ (same_truth (is_some (mapping_of f.body k 0)) (is_in f.source k)
         (λ e. let r = some_is (mapping_of f.body k 0) e in (w.maps_only k 0 r.0 (mapping_mem f.body k 0 r.0 r.1)).0)
         (λ e. let r = w.maps k e in is_some_lem (mapping_of f.body k 0) (mem_mapping f.body rises k 0 r.0 r.1))))
@@ -139,10 +139,10 @@ module _ (f : Translation) (below : KindsBelow f) (rises : Rising item_key f.bod
         go (some c) e = let d = w.classes s j t c m e in rw d.1 d.2
     kept (clause r p j c) m = refl
 
-    has-clause : (a : Entry) → Mem a f.source → has_clause f a ≡ true
+    has_clause_lem : (a : Entry) → Mem a f.source → has_clause f a ≡ true
     unfolding has_clause
-    has-clause (class k c) m = refl
-    has-clause (production r p ks) m =
+    has_clause_lem (class k c) m = refl
+    has_clause_lem (production r p ks) m =
         mem_all _ (numbers_of f.body r) (λ j n.
         let t = number_mem f.body r j n in
         let q = w.clauses r p j t.0 ks m t.1 in
@@ -156,22 +156,22 @@ module _ (f : Translation) (below : KindsBelow f) (rises : Rising item_key f.bod
         both_and _ _ (is_some_lem (arguments_of f.source r p) (mem_arguments f.source source_rises r p q.0.0 q.0.1))
         (is_some_lem (mapping_of f.body r j) (mem_mapping f.body rises r j q.1.0 q.1.1))
 
-    code_fits : (a : Item) → Mem a f.body → code_fits f a ≡ true
+    code_fits_lem : (a : Item) → Mem a f.body → code_fits f a ≡ true
     unfolding code_fits
-    code_fits (mapping s j t) m = refl
-    code_fits (clause r p j c) m = let q = w.codes r p j c m in rw q.1
+    code_fits_lem (mapping s j t) m = refl
+    code_fits_lem (clause r p j c) m = let q = w.codes r p j c m in rw q.1
 
     -- What fits passes the tests.
-    pub fit-tests : well_formed f ≡ value f
+    pub fit_tests : well_formed f ≡ value f
     unfolding well_formed mapping_fits clauses_fit codes_fit
-    fit-tests =
+    fit_tests =
         rw (
-          kinds-mapped,
+          kinds_mapped_lem,
           mem_all (reaches_target f) f.body reaches,
           mem_all (class_kept f) f.body kept,
-          mem_all (has_clause f) f.source has-clause,
+          mem_all (has_clause f) f.source has_clause_lem,
           mem_all (has_production f) f.body has_production_lem,
-          mem_all (code_fits f) f.body code_fits,
+          mem_all (code_fits f) f.body code_fits_lem,
         )
 
 pub refuse_value : {A : Type 0} {a : A} (t : Bool) (r : Reason) (o : Result A) → refuse_if t r o ≡ value a → (t ≡ false) × (o ≡ value a)
@@ -223,10 +223,10 @@ pub clause_alike : (f g : Translation) → Larger f.target g.target → (k p j :
     → (c : List ℕ) (a : Code) → read_clause f k p j c ≡ done a [] → read_clause g k p j c ≡ done a []
 unfolding read_clause
 clause_alike f g w k p j ks e d q h c a r =
-    let z : uses_of f k p ≡ uses_of g k p = uses_are f k p ks e ∙ (maps-alike ks h ∙ sym (uses_are g k p ks d)) in
+    let z : uses_of f k p ≡ uses_of g k p = uses_are f k p ks e ∙ (maps_alike ks h ∙ sym (uses_are g k p ks d)) in
     rw (← z, ← q) (keeps (read_keeps w (uses_of f k p) code_levels (mapped f.body k j) c) r)
   where
-    maps-alike : (l : List ℕ) → ((i : ℕ) → Mem i l → (m : ℕ) → mapping_of f.body i m ≡ mapping_of g.body i m)
+    maps_alike : (l : List ℕ) → ((i : ℕ) → Mem i l → (m : ℕ) → mapping_of f.body i m ≡ mapping_of g.body i m)
         → map (mapping_of f.body) l ≡ map (mapping_of g.body) l
-    maps-alike [] h = refl
-    maps-alike (x ∷ l) h = λ i. (λ m. h x (inl refl) m i) ∷ maps-alike l (λ y n. h y (inr n)) i
+    maps_alike [] h = refl
+    maps_alike (x ∷ l) h = λ i. (λ m. h x (inl refl) m i) ∷ maps_alike l (λ y n. h y (inr n)) i

@@ -15,7 +15,7 @@ use Rattle.format_fields.specs.Inner.Places.{field_end, is_whole, WholeEnd, fiel
 use Rattle.format_fields.proofs.Truth.{by_test, none_some}
 use Rattle.format_fields.proofs.Lists.{part_is}
 use Rattle.format_fields.proofs.Places.{end_past, end_whole}
-use Rattle.format_fields.proofs.Split.{fields_done, fields_next, fields-cut}
+use Rattle.format_fields.proofs.Split.{fields_done, fields_next, fields_cut}
 use Rattle.format_fields.proofs.Codec.{not_over}
 use Rattle.format_language.specs.Language.{Language}
 use Rattle.format_language.specs.LanguageFile.{entries_of}
@@ -99,7 +99,7 @@ no_source s h =
     ap parts_of_fields (fields_next s 0 i (leb-true _ _ w)) ∙ by_test (eqb (get_or s 0 0) 0x20)
     (λ t. absurd (no_part 0x20 s 0 h t (leb-true _ _ w)))
     (λ t. one_field (get_or s 0 0) (contents_at s 0) (fields_of (drop (field_end s 0) s)) t))
-    (λ w. ap parts_of_fields (fields-cut s 0 i (leb-false _ _ w))))
+    (λ w. ap parts_of_fields (fields_cut s 0 i (leb-false _ _ w))))
 
 module _ (s : List ℕ) (a : ℕ) (first : PartAt 0x20 s 0 a) where
   source_fields : fields_of s ≡ before (some (field_at s 0)) (fields_of (drop a s))
@@ -120,13 +120,13 @@ module _ (s : List ℕ) (a : ℕ) (first : PartAt 0x20 s 0 a) where
       rw (fields_next s a i (leb-true _ _ w)) (by_test (eqb (get_or s a 0) 0x21)
       (λ t. absurd (no_part 0x21 s a h t (leb-true _ _ w)))
       (λ t. two_fields (get_or s 0 0) (get_or s a 0) (contents_at s 0) (contents_at s a) (fields_of (drop (field_end s a) s)) t)))
-      (λ w. rw (fields-cut s a i (leb-false _ _ w))))
+      (λ w. rw (fields_cut s a i (leb-false _ _ w))))
 
   module _ (b : ℕ) (second : PartAt 0x21 s a b) where
     -- The fields of the file: both parts, then those of the rest.
-    fields-are : fields_of s ≡ before (some (field 0x20 (slice 3 a s))) (before (some (field 0x21 (slice (a + 3) b s))) (fields_of (drop b s)))
+    fields_are : fields_of s ≡ before (some (field 0x20 (slice 3 a s))) (before (some (field 0x21 (slice (a + 3) b s))) (fields_of (drop b s)))
     unfolding field_at
-    fields-are =
+    fields_are =
         let i : a < length s = tag_in s a 0x20 (eqb-true _ _ second.is_tag) in
         let n : fields_of (drop a s) ≡ before (some (field_at s a)) (fields_of (drop b s)) = rw second.end (fields_next s a i (rw (← second.end) second.fits)) in
         let c : contents_at s 0 ≡ slice 3 a s = rw first.end (contents_is s 0 (rw (← first.end) first.fits)) in
@@ -136,13 +136,13 @@ module _ (s : List ℕ) (a : ℕ) (first : PartAt 0x20 s 0 a) where
     -- With both, the parts are what the three hold.
     pub parts_are : parts_of s ≡ parts (entries_of (slice 3 a s)) (entries_of (slice (a + 3) b s)) (body_of (drop b s))
     unfolding parts_of body_of
-    parts_are = ap parts_of_fields fields-are ∙ both_fields 0x20 0x21 (slice 3 a s) (slice (a + 3) b s) (fields_of (drop b s)) refl refl
+    parts_are = ap parts_of_fields fields_are ∙ both_fields 0x20 0x21 (slice 3 a s) (slice (a + 3) b s) (fields_of (drop b s)) refl refl
 
     -- No language says that it is over the limit: both parts are within it.
-    both-within : (fs : List Field) → fields_of (drop b s) ≡ some fs → (limit : ℕ) → has_over is_language_tag limit s ≡ false
+    both_within : (fs : List Field) → fields_of (drop b s) ≡ some fs → (limit : ℕ) → has_over is_language_tag limit s ≡ false
         → (length (slice 3 a s) ≤ limit) × (length (slice (a + 3) b s) ≤ limit)
-    both-within fs e limit h =
-        let z : fields_of s ≡ some (field 0x20 (slice 3 a s) ∷ field 0x21 (slice (a + 3) b s) ∷ fs) = fields-are ∙ rw e refl in
+    both_within fs e limit h =
+        let z : fields_of s ≡ some (field 0x20 (slice 3 a s) ∷ field 0x21 (slice (a + 3) b s) ∷ fs) = fields_are ∙ rw e refl in
         let (x, (y, r)) = not_over is_language_tag limit s (field 0x20 (slice 3 a s) ∷ field 0x21 (slice (a + 3) b s) ∷ fs) z h in
         (x refl, y refl)
 
@@ -188,7 +188,7 @@ module _ (s : List ℕ) (a : ℕ) (ea : a ≡ field_end s 0) where
         source = p;
         target = q;
         body = r;
-        short = let g = body_from (drop b s) f.body r in both-within s a x b y g.0 g.1;
+        short = let g = body_from (drop b s) f.body r in both_within s a x b y g.0 g.1;
       }
 
 -- over_limit
@@ -218,9 +218,9 @@ module _ (tag : ℕ) (s : List ℕ) (p : ℕ) where
   part_cut h = by_test (eqb (get_or s p 0) tag) (λ e. cc) (λ e. cc)
 
   module _ (k : ℕ) (ek : k ≡ get_or s p 0) where
-    pub part-other : (k ≡ tag → ⊥) → 0 ≡ part_end tag s p
+    pub part_other : (k ≡ tag → ⊥) → 0 ≡ part_end tag s p
     unfolding part_end
-    part-other h = cc (ne_eqb k tag h)
+    part_other h = cc (ne_eqb k tag h)
 
     pub part_whole_lem : k ≡ tag → (e : ℕ) → WholeEnd s p e → e ≡ part_end tag s p
     unfolding part_end
@@ -235,8 +235,8 @@ module _ (s : List ℕ) (a : ℕ) (ea : a ≡ part_end 0x20 s 0) where
     first : PartAt 0x20 s 0 a
     first = part_at 0x20 s 0 a ea na
 
-    pub whole-target : b ≡ 0 → false ≡ is_some (parts_of s)
-    whole-target h = sym (ap is_some (no_target s a first (sym eb ∙ h)))
+    pub whole_target : b ≡ 0 → false ≡ is_some (parts_of s)
+    whole_target h = sym (ap is_some (no_target s a first (sym eb ∙ h)))
 
     module _ (nb : b ≡ 0 → ⊥) where
       second : PartAt 0x21 s a b
@@ -249,28 +249,28 @@ module _ (s : List ℕ) (a : ℕ) (ea : a ≡ part_end 0x20 s 0) where
       abbrev three : Bool
       three = is_some (parts (entries_of (slice 3 a s)) (entries_of (slice (a + 3) b s)) (body_of (drop b s)))
 
-      whole-three : three ≡ is_some (parts_of s)
-      whole-three = sym (ap is_some (parts_are s a first b second))
+      whole_three : three ≡ is_some (parts_of s)
+      whole_three = sym (ap is_some (parts_are s a first b second))
 
-      some-parts : (o p : Option Language) (q : Option Body) → is_some (parts o p q) ≡ (is_some o && (is_some p && is_some q))
-      some-parts none p q = refl
-      some-parts (some l) none q = refl
-      some-parts (some l) (some m) none = refl
-      some-parts (some l) (some m) (some i) = refl
+      some_parts : (o p : Option Language) (q : Option Body) → is_some (parts o p q) ≡ (is_some o && (is_some p && is_some q))
+      some_parts none p q = refl
+      some_parts (some l) none q = refl
+      some_parts (some l) (some m) none = refl
+      some_parts (some l) (some m) (some i) = refl
 
-      cut-three : (is_some (entries_of (cut s 3 a)) && (is_some (entries_of (cut s (a + 3) b)) && is_some (body_of (cut s b (length s))))) ≡ is_some (parts_of s)
-      cut-three =
+      cut_three : (is_some (entries_of (cut s 3 a)) && (is_some (entries_of (cut s (a + 3) b)) && is_some (body_of (cut s b (length s))))) ≡ is_some (parts_of s)
+      cut_three =
           let c = cuts in
           rw (cut_is s 3 a c.0 c.1, cut_is s (a + 3) b c.2 c.3, rest_is s b)
-          (sym (some-parts (entries_of (slice 3 a s)) (entries_of (slice (a + 3) b s)) (body_of (drop b s))) ∙ whole-three)
+          (sym (some_parts (entries_of (slice 3 a s)) (entries_of (slice (a + 3) b s)) (body_of (drop b s))) ∙ whole_three)
 
       module _ (x : Bool) (ex : x ≡ is_some (entries_of (cut s 3 a))) where
-        pub whole-first : x ≡ false → false ≡ is_some (parts_of s)
-        whole-first h = rw (← ex, h) at cut-three
+        pub whole_first : x ≡ false → false ≡ is_some (parts_of s)
+        whole_first h = rw (← ex, h) at cut_three
 
         module _ (xt : x ≡ true) (y : Bool) (ey : y ≡ is_some (entries_of (cut s (a + 3) b))) where
-          pub whole-second : y ≡ false → false ≡ is_some (parts_of s)
-          whole-second h = rw (← ex, xt, ← ey, h) at cut-three
+          pub whole_second : y ≡ false → false ≡ is_some (parts_of s)
+          whole_second h = rw (← ex, xt, ← ey, h) at cut_three
 
-          pub whole-body : y ≡ true → (z : Bool) → z ≡ is_some (body_of (cut s b (length s))) → z ≡ is_some (parts_of s)
-          whole-body h z ez = rw (← ex, xt, ← ey, h, ← ez) at cut-three
+          pub whole_body : y ≡ true → (z : Bool) → z ≡ is_some (body_of (cut s b (length s))) → z ≡ is_some (parts_of s)
+          whole_body h z ez = rw (← ex, xt, ← ey, h, ← ez) at cut_three

@@ -18,7 +18,7 @@ use Rattle.format_fields.specs.Inner.Places.{field_end, places, key_at, slot_at}
 use Rattle.format_fields.proofs.Truth.{by_test}
 use Rattle.format_language.specs.Language.{kind_key, production_key}
 use Rattle.tree_reader.specs.Inner.Index.{put_all}
-use Rattle.tree_reader.proofs.Placed.{place_of, puts_length, puts_place, found, Groups, of_first, of_second, looked-kind, looked-name}
+use Rattle.tree_reader.proofs.Placed.{place_of, puts_length, puts_place, found, Groups, of_first, of_second, looked_kind, looked_name}
 use Rattle.format_translation.specs.Translation.{mapping, clause, Body, target_at, mapping_of, code_at, clause_of, mapped}
 use Rattle.format_translation.specs.TranslationFile.{body_of}
 use Rattle.format_translation.specs.Inner.Items.{item_whole, item_at, IsMapping, IsClause, IsNumberedMapping, IsNumberedClause, ItemFacts, plain_mapping, plain_clause, numbered_mapping_lem, numbered_clause_lem, HoldsItems}
@@ -139,11 +139,11 @@ module _ (s index : List ℕ) (bytes : (i : ℕ) → get_or s i 0 < 256) (short 
         let g = c.fits in
         (omega arith, rw d c.target)
 
-    mapping-built : (k : ℕ) → k < 32 → mapping_of b k 0 ≡ target_before s (get_or built (kind_key k) 0)
+    mapping_built : (k : ℕ) → k < 32 → mapping_of b k 0 ≡ target_before s (get_or built (kind_key k) 0)
     unfolding mapping_of
-    mapping-built k h =
+    mapping_built k h =
         ap (first (target_at k 0)) (sym held.items)
-        ∙ (looked-kind 0x22 s (item_whole s) (IsMapping s) (IsClause s) (Numbered s) (groups s) (item_at s) (target_at k 0) (target_before s) refl
+        ∙ (looked_kind 0x22 s (item_whole s) (IsMapping s) (IsClause s) (Numbered s) (groups s) (item_at s) (target_at k 0) (target_before s) refl
         (λ p. get_or s (p + 4) 0) (λ p. rw add-one refl) k h
         (plain_target s k) (λ p c. clause_target s k p c) (no_target s k) (places s) held.whole
         ∙ ap (target_before s) (sym (at_key k (omega arith))))
@@ -171,10 +171,10 @@ module _ (s index : List ℕ) (bytes : (i : ℕ) → get_or s i 0 < 256) (short 
             code = λ k p h j z. code_in k p _ refl h j z;
           };
           items = e;
-          mapping = mapping-built room;
+          mapping = mapping_built room;
           clause = λ k p h j.
               ap (first (code_at k p 0)) (sym held.items)
-              ∙ (looked-name 0x22 s (item_whole s) (IsMapping s) (IsClause s) (Numbered s) (groups s) (item_at s) (code_at k p 0) (code_before s) refl
+              ∙ (looked_name 0x22 s (item_whole s) (IsMapping s) (IsClause s) (Numbered s) (groups s) (item_at s) (code_at k p 0) (code_before s) refl
               (λ q. slice (q + 5) (field_end s q) s) (λ q. rw add-one refl) k h p j bytes
               (λ q c. mapping_code s k p q c) (plain_code s k p) (no_code s k p) (places s) held.whole
               ∙ ap (code_before s) (sym (at_key (production_key k p) (omega arith))));

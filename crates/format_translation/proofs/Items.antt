@@ -11,7 +11,7 @@ use lib.Dec.{ltb, leb, eqb}
 use borrow.Author.Tests.{lt-ltb, le-ltb, le-leb, lt-leb, eq-eqb, ne_eqb, leb-true, ltb-true, eqb-true}
 use Rattle.format_fields.specs.Lists.{all, is_some}
 use Rattle.format_fields.specs.Fields.{Field, pair_at, fields_of, decoded_in}
-use Rattle.format_fields.specs.Keyed.{rising, risingFrom}
+use Rattle.format_fields.specs.Keyed.{rising, rising_from}
 use Rattle.format_fields.specs.Inner.Places.{field_end, is_whole, WholeEnd, contents_at, field_at, places, places_from, key_at, item_order, order_at}
 use Rattle.format_fields.proofs.Truth.{by_test, false_true, and_both}
 use Rattle.format_fields.proofs.Codec.{cond_some}
@@ -159,14 +159,14 @@ module _ (s : List ℕ) (p : ℕ) where
       d : p + 3 + 1 ≡ p + 4
       d = omega arith
 
-      clause-size : IsNumberedClause s p → 3 ≤ pair_at s (p + 1)
-      clause-size m = clause_number_lem m
+      clause_size : IsNumberedClause s p → 3 ≤ pair_at s (p + 1)
+      clause_size m = clause_number_lem m
 
       go : ItemFacts s p → item_key (item_at s p) ≡ order_at 0x22 s p
       go (plain_mapping m) = rw (mapping_is m, m.tag) (omega arith)
       go (plain_clause m) = rw (clause_is m, m.tag, d) (omega arith)
       go (numbered_mapping_lem m) = rw (numbered_mapping_is m, m.tag, d) (omega arith)
-      go (numbered_clause_lem m) = rw (numbered_clause_is m, m.tag, d, le-ltb (pair_at s (p + 1)) 3 (clause-size m)) (omega arith)
+      go (numbered_clause_lem m) = rw (numbered_clause_is m, m.tag, d, le-ltb (pair_at s (p + 1)) 3 (clause_size m)) (omega arith)
 
 -- The groups of items by place.
 module _ (s : List ℕ) (p : ℕ) where
@@ -225,8 +225,8 @@ holds_items s b e =
 
 -- Keys that are the same at each whole place rise alike.
 rising_whole : (s : List ℕ) (n : ℕ) (l : List ℕ) → all (item_whole s) l ≡ true
-    → risingFrom (order_at 0x22 s) n l ≡ risingFrom item_key n (map (item_at s) l)
-unfolding risingFrom
+    → rising_from (order_at 0x22 s) n l ≡ rising_from item_key n (map (item_at s) l)
+unfolding rising_from
 rising_whole s n [] h = refl
 rising_whole s n (p ∷ l) h =
     let w = all_true (item_whole s) p l h in
@@ -235,7 +235,7 @@ rising_whole s n (p ∷ l) h =
 -- A file of items b has rising keys if b has.
 pub rising_is : (s : List ℕ) (b : Body) → HoldsItems s b → rising (order_at 0x22 s) (places s) ≡ rising item_key b
 unfolding rising
-rising_is s b h = rising_whole s 0 (places s) h.whole ∙ ap (risingFrom item_key 0) h.items
+rising_is s b h = rising_whole s 0 (places s) h.whole ∙ ap (rising_from item_key 0) h.items
 
 -- mapping_whole and clause_whole: n is the length of the contents, k the first byte of it
 module _ (s : List ℕ) (p n k : ℕ) (en : n ≡ size_at s p) (ek : k ≡ get_or s (p + 3) 0) where
@@ -298,22 +298,22 @@ module _ (s : List ℕ) (p tag : ℕ) (et : tag ≡ get_or s p 0) where
   good_mapping h x ex = cc (eq-eqb tag 0x22 h)
 
   module _ (other : tag ≡ 0x22 → ⊥) where
-    pub good-clause : tag ≡ 0x23 → (x : Bool) → x ≡ clause_whole s p → x ≡ item_good s p
+    pub good_clause : tag ≡ 0x23 → (x : Bool) → x ≡ clause_whole s p → x ≡ item_good s p
     unfolding item_good
-    good-clause h x ex = cc (ne_eqb tag 0x22 other, eq-eqb tag 0x23 h)
+    good_clause h x ex = cc (ne_eqb tag 0x22 other, eq-eqb tag 0x23 h)
 
     module _ (third : tag ≡ 0x23 → ⊥) where
-      pub good-numbered : tag ≡ 0x28 → (x : Bool) → x ≡ numbered_mapping_whole s p → x ≡ item_good s p
+      pub good_numbered : tag ≡ 0x28 → (x : Bool) → x ≡ numbered_mapping_whole s p → x ≡ item_good s p
       unfolding item_good
-      good-numbered h x ex = cc (ne_eqb tag 0x22 other, ne_eqb tag 0x23 third, eq-eqb tag 0x28 h)
+      good_numbered h x ex = cc (ne_eqb tag 0x22 other, ne_eqb tag 0x23 third, eq-eqb tag 0x28 h)
 
-      pub good-numbered-clause : (tag ≡ 0x28 → ⊥) → tag ≡ 0x29 → (x : Bool) → x ≡ numbered_clause_whole s p → x ≡ item_good s p
+      pub good_numbered_clause : (tag ≡ 0x28 → ⊥) → tag ≡ 0x29 → (x : Bool) → x ≡ numbered_clause_whole s p → x ≡ item_good s p
       unfolding item_good
-      good-numbered-clause h i x ex = cc (ne_eqb tag 0x22 other, ne_eqb tag 0x23 third, ne_eqb tag 0x28 h, eq-eqb tag 0x29 i)
+      good_numbered_clause h i x ex = cc (ne_eqb tag 0x22 other, ne_eqb tag 0x23 third, ne_eqb tag 0x28 h, eq-eqb tag 0x29 i)
 
-      pub good-neither : (tag ≡ 0x28 → ⊥) → (tag ≡ 0x29 → ⊥) → false ≡ item_good s p
+      pub good_neither : (tag ≡ 0x28 → ⊥) → (tag ≡ 0x29 → ⊥) → false ≡ item_good s p
       unfolding item_good
-      good-neither h i = cc (ne_eqb tag 0x22 other, ne_eqb tag 0x23 third, ne_eqb tag 0x28 h, ne_eqb tag 0x29 i)
+      good_neither h i = cc (ne_eqb tag 0x22 other, ne_eqb tag 0x23 third, ne_eqb tag 0x28 h, ne_eqb tag 0x29 i)
 
 -- body_whole
 module _ (s : List ℕ) (p : ℕ) where
@@ -343,22 +343,22 @@ module _ (s : List ℕ) (p : ℕ) (past all : Bool) (inv : items_whole s past (p
     next = pass_next (items_whole s past) s p all inv e here ee
 
     module _ (x : Bool) (ex : x ≡ item_whole s p) where
-      pub items-broken : x ≡ false → false ≡ all
+      pub items_broken : x ≡ false → false ≡ all
       unfolding items_whole
-      items-broken h = rw (← ex, h) at next
+      items_broken h = rw (← ex, h) at next
 
       module _ (good : x ≡ true) (c : Bool) (ec : c ≡ is_clause_tag (get_or s p 0)) where
-        pub items-late : past ≡ true → c ≡ false → false ≡ all
+        pub items_late : past ≡ true → c ≡ false → false ≡ all
         unfolding items_whole
-        items-late h i = rw (← ex, good, ← ec, i, h) at next
+        items_late h i = rw (← ex, good, ← ec, i, h) at next
 
-        pub items-clause : c ≡ true → items_whole s c (places_from s e) ≡ all
+        pub items_clause : c ≡ true → items_whole s c (places_from s e) ≡ all
         unfolding items_whole
-        items-clause i = rw i (rw (← ex, good, ← ec, i) at next)
+        items_clause i = rw i (rw (← ex, good, ← ec, i) at next)
 
-        pub items-early : past ≡ false → items_whole s c (places_from s e) ≡ all
+        pub items_early : past ≡ false → items_whole s c (places_from s e) ≡ all
         unfolding items_whole
-        items-early h = let w : items_whole s past (p ∷ places_from s e) ≡ all = next in go c refl (rw (← ex, good, ← ec, h) at w)
+        items_early h = let w : items_whole s past (p ∷ places_from s e) ≡ all = next in go c refl (rw (← ex, good, ← ec, h) at w)
           where
             go : (d : Bool) → c ≡ d → (((true && (d || true)) && items_whole s c (places_from s e)) ≡ all) → items_whole s c (places_from s e) ≡ all
             go true q y = y

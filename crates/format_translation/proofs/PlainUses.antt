@@ -8,7 +8,7 @@ use borrow.Author.Tests.{eqb-true}
 use Rattle.format_fields.proofs.Truth.{Mem, none_some, all_mem}
 use Rattle.format_language.specs.Language.{Language, arguments_of}
 use Rattle.tree_reader.specs.Code.{Code, Codes}
-use Rattle.tree_reader.specs.Typing.{Uses, kind_at, Typed, TypedAll, typed-node, typed-token, typed-argument, typed-nil, typed-cons}
+use Rattle.tree_reader.specs.Typing.{Uses, kind_at, Typed, TypedAll, typed_node, typed_token, typed_argument, typed_nil, typed_cons}
 use Rattle.format_translation.specs.Translation.{Item, mapping, Body, Translation, number_of, mapping_of}
 use Rattle.format_translation.specs.Running.{uses_of}
 use Rattle.format_translation.proofs.Lookup.{mapping_mem}
@@ -37,11 +37,11 @@ use_zero f h k p (suc i) j t e =
 -- A typed code that may use arguments by number 0 only does so.
 module _ {m : Language} {u : Uses} (zero_only : (i j t : ℕ) → kind_at u i j ≡ some t → j ≡ 0) where
   mutual
-    pub typed-zero : {a : Code} {k : ℕ} → Typed m u a k → ByZero a
-    typed-zero (typed-node e h) = typed-zeroAll h
-    typed-zero (typed-token e h) = tt
-    typed-zero (typed-argument {i = i} {j = j} {k = k} e) = zero_only i j k e
+    pub typed_zero : {a : Code} {k : ℕ} → Typed m u a k → ByZero a
+    typed_zero (typed_node e h) = typed_zero_all h
+    typed_zero (typed_token e h) = tt
+    typed_zero (typed_argument {i = i} {j = j} {k = k} e) = zero_only i j k e
 
-    pub typed-zeroAll : {t : Codes} {ks : List ℕ} → TypedAll m u t ks → ByZeroAll t
-    typed-zeroAll typed-nil = tt
-    typed-zeroAll (typed-cons h hs) = (typed-zero h, typed-zeroAll hs)
+    pub typed_zero_all : {t : Codes} {ks : List ℕ} → TypedAll m u t ks → ByZeroAll t
+    typed_zero_all typed_nil = tt
+    typed_zero_all (typed_cons h hs) = (typed_zero h, typed_zero_all hs)

@@ -69,10 +69,10 @@ module _ (s : List ℕ) (p : ℕ) (w : Whole s p) (here : p < length s) where
     next : all by_zero (item_at s p ∷ map (item_at s) (places_from s (field_end s p))) ≡ plain b
     next = ap (λ (l : List ℕ). all by_zero (map (item_at s) l)) (sym (places_next s p here)) ∙ v
 
-    pub left-number : 0x28 ≤ get_or s p 0 → false ≡ plain b
+    pub left_number : 0x28 ≤ get_or s p 0 → false ≡ plain b
     unfolding all
-    left-number h = rw (number_here h facts) at next
+    left_number h = rw (number_here h facts) at next
 
-    pub left-next : get_or s p 0 < 0x28 → (e : ℕ) → e ≡ field_end s p → Left s e b
+    pub left_next : get_or s p 0 < 0x28 → (e : ℕ) → e ≡ field_end s p → Left s e b
     unfolding all
-    left-next h e ee = rw ee (rw (zero_here h facts) at next)
+    left_next h e ee = rw ee (rw (zero_here h facts) at next)

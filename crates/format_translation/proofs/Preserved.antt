@@ -9,7 +9,7 @@ use Rattle.format_fields.proofs.Truth.{none_some, some_inj}
 use Rattle.format_language.specs.Language.{Language, Range, range_of, arguments_of, range_within}
 use Rattle.format_language.proofs.Ranges.{value_within}
 use Rattle.tree_reader.specs.Code.{Code, node, Codes, cons}
-use Rattle.tree_reader.specs.Typing.{Uses, kind_by, kind_at, Typed, TypedAll, typed-node, typed-token, typed-argument, typed-nil, typed-cons}
+use Rattle.tree_reader.specs.Typing.{Uses, kind_by, kind_at, Typed, TypedAll, typed_node, typed_token, typed_argument, typed_nil, typed_cons}
 use Rattle.format_translation.specs.Running.{Replacing, substitute, substitute_all, from_one, Clauses, paired, run, run_operand}
 use Rattle.format_translation.proofs.Running.{Small, SmallAll, ByZero, ByZeroAll}
 
@@ -35,13 +35,13 @@ mutual
   unfolding substitute
 
   pub typed_substitute : {m : Language} {u v : Uses} {s : Replacing} {a : Code} {k : ℕ} → Fits m u v s → Typed m u a k → Typed m v (substitute s a) k
-  typed_substitute g (typed-node e h) = typed-node e (typed_substitute_all g h)
-  typed_substitute g (typed-token e h) = typed-token e h
-  typed_substitute g (typed-argument {i = i} {j = j} {k = k} e) = g i j k e
+  typed_substitute g (typed_node e h) = typed_node e (typed_substitute_all g h)
+  typed_substitute g (typed_token e h) = typed_token e h
+  typed_substitute g (typed_argument {i = i} {j = j} {k = k} e) = g i j k e
 
   pub typed_substitute_all : {m : Language} {u v : Uses} {s : Replacing} {t : Codes} {ks : List ℕ} → Fits m u v s → TypedAll m u t ks → TypedAll m v (substitute_all s t) ks
-  typed_substitute_all g typed-nil = typed-nil
-  typed_substitute_all g (typed-cons h hs) = typed-cons (typed_substitute g h) (typed_substitute_all g hs)
+  typed_substitute_all g typed_nil = typed_nil
+  typed_substitute_all g (typed_cons h hs) = typed_cons (typed_substitute g h) (typed_substitute_all g hs)
 
 -- A use that has a kind: its argument has one, and that one has the number.
 pub use_kind : (to : Mappings) (ks : List ℕ) (i j t : ℕ) → kind_by (get_elem? (map to ks) i) j ≡ some t
@@ -77,30 +77,30 @@ module _ {l m : Language} {to : Mappings} {f : Clauses} (w : Carries l m to f) {
   mutual
     unfolding run
 
-    pub typed-run : {a : Code} {k : ℕ} (j t : ℕ) → Typed l u a k → to k j ≡ some t → Typed m v (run f j a) t
-    typed-run j t (typed-node {k = k} {p = p} {t = ts} {ks = ks} e h) q =
+    pub typed_run : {a : Code} {k : ℕ} (j t : ℕ) → Typed l u a k → to k j ≡ some t → Typed m v (run f j a) t
+    typed_run j t (typed_node {k = k} {p = p} {t = ts} {ks = ks} e h) q =
         typed_substitute
-        (from_fits m to v ks (λ i by. run_operand f ts i by) (λ i by c d x y. typed-operand i by c d h x y))
+        (from_fits m to v ks (λ i by. run_operand f ts i by) (λ i by c d x y. typed_operand i by c d h x y))
         (w.nodes k p j t ks e q)
-    typed-run j t (typed-token {v = x} {k = k} {c = c} e h) q = let d = w.tokens k j t c q e in typed-token d.1 (value_within c d.0 d.2 x h)
-    typed-run j t (typed-argument {i = a} {j = i} {k = k} e) q = typed-argument (kept a i j k t e q)
+    typed_run j t (typed_token {v = x} {k = k} {c = c} e h) q = let d = w.tokens k j t c q e in typed_token d.1 (value_within c d.0 d.2 x h)
+    typed_run j t (typed_argument {i = a} {j = i} {k = k} e) q = typed_argument (kept a i j k t e q)
 
-    pub typed-operand : {ts : Codes} {ks : List ℕ} (i j k t : ℕ) → TypedAll l u ts ks → get_elem? ks i ≡ some k → to k j ≡ some t → Typed m v (run_operand f ts i j) t
-    typed-operand i j k t typed-nil e q = none_some e
-    typed-operand zero j k t (typed-cons h hs) e q = typed-run j t h (ap (λ (x : ℕ). to x j) (some_inj e) ∙ q)
-    typed-operand (suc i) j k t (typed-cons h hs) e q = typed-operand i j k t hs e q
+    pub typed_operand : {ts : Codes} {ks : List ℕ} (i j k t : ℕ) → TypedAll l u ts ks → get_elem? ks i ≡ some k → to k j ≡ some t → Typed m v (run_operand f ts i j) t
+    typed_operand i j k t typed_nil e q = none_some e
+    typed_operand zero j k t (typed_cons h hs) e q = typed_run j t h (ap (λ (x : ℕ). to x j) (some_inj e) ∙ q)
+    typed_operand (suc i) j k t (typed_cons h hs) e q = typed_operand i j k t hs e q
 
 -- A use that is typed is by a number that a mapping has: where those are below 16, so are all uses.
 module _ {m : Language} {u : Uses} (low : (i j k : ℕ) → kind_at u i j ≡ some k → j < 16) where
   mutual
-    pub typed-small : {a : Code} {k : ℕ} → Typed m u a k → Small a
-    typed-small (typed-node e h) = typed-smallAll h
-    typed-small (typed-token e h) = tt
-    typed-small (typed-argument {i = i} {j = j} {k = k} e) = low i j k e
+    pub typed_small : {a : Code} {k : ℕ} → Typed m u a k → Small a
+    typed_small (typed_node e h) = typed_small_all h
+    typed_small (typed_token e h) = tt
+    typed_small (typed_argument {i = i} {j = j} {k = k} e) = low i j k e
 
-    pub typed-smallAll : {t : Codes} {ks : List ℕ} → TypedAll m u t ks → SmallAll t
-    typed-smallAll typed-nil = tt
-    typed-smallAll (typed-cons h hs) = (typed-small h, typed-smallAll hs)
+    pub typed_small_all : {t : Codes} {ks : List ℕ} → TypedAll m u t ks → SmallAll t
+    typed_small_all typed_nil = tt
+    typed_small_all (typed_cons h hs) = (typed_small h, typed_small_all hs)
 
 -- A tree uses nothing.
 no_use : (i j : ℕ) {k : ℕ} {A : Type 0} → kind_at [] i j ≡ some k → A
@@ -109,27 +109,27 @@ no_use (suc i) j e = none_some e
 
 mutual
   pub typed_tree : {l : Language} {a : Code} {k : ℕ} → Typed l [] a k → ByZero a
-  typed_tree (typed-node e h) = typed_trees h
-  typed_tree (typed-token e h) = tt
-  typed_tree (typed-argument {i = i} {j = j} e) = no_use i j e
+  typed_tree (typed_node e h) = typed_trees h
+  typed_tree (typed_token e h) = tt
+  typed_tree (typed_argument {i = i} {j = j} e) = no_use i j e
 
   pub typed_trees : {l : Language} {t : Codes} {ks : List ℕ} → TypedAll l [] t ks → ByZeroAll t
-  typed_trees typed-nil = tt
-  typed_trees (typed-cons h hs) = (typed_tree h, typed_trees hs)
+  typed_trees typed_nil = tt
+  typed_trees (typed_cons h hs) = (typed_tree h, typed_trees hs)
 
 -- Replacements that agree on typed uses do the same to a typed code.
 module _ {m : Language} {u : Uses} (s r : Replacing) (e : (i j k : ℕ) → kind_at u i j ≡ some k → s i j ≡ r i j) where
   mutual
     unfolding substitute
 
-    pub typed-alike : {a : Code} {k : ℕ} → Typed m u a k → substitute s a ≡ substitute r a
-    typed-alike (typed-node {k = k} {p = p} d h) = ap (node k p) (typed-alikeAll h)
-    typed-alike (typed-token d h) = refl
-    typed-alike (typed-argument {i = i} {j = j} {k = k} d) = e i j k d
+    pub typed_alike : {a : Code} {k : ℕ} → Typed m u a k → substitute s a ≡ substitute r a
+    typed_alike (typed_node {k = k} {p = p} d h) = ap (node k p) (typed_alike_all h)
+    typed_alike (typed_token d h) = refl
+    typed_alike (typed_argument {i = i} {j = j} {k = k} d) = e i j k d
 
-    pub typed-alikeAll : {t : Codes} {ks : List ℕ} → TypedAll m u t ks → substitute_all s t ≡ substitute_all r t
-    typed-alikeAll typed-nil = refl
-    typed-alikeAll (typed-cons h hs) = λ i. cons (typed-alike h i) (typed-alikeAll hs i)
+    pub typed_alike_all : {t : Codes} {ks : List ℕ} → TypedAll m u t ks → substitute_all s t ≡ substitute_all r t
+    typed_alike_all typed_nil = refl
+    typed_alike_all (typed_cons h hs) = λ i. cons (typed_alike h i) (typed_alike_all hs i)
 
 -- The same of operands counted from 0 and uses counted from 1.
 from_alike : (to : Mappings) (ks : List ℕ) (s r : Replacing)
@@ -145,17 +145,17 @@ module _ {l m : Language} {to : Mappings} {f g : Clauses} (w : Carries l m to g)
   mutual
     unfolding run
 
-    pub run-alike : {u : Uses} {a : Code} {k : ℕ} (j t : ℕ) → Typed l u a k → to k j ≡ some t → run f j a ≡ run g j a
-    run-alike j t (typed-node {k = k} {p = p} {t = ts} {ks = ks} e h) q =
+    pub run_alike : {u : Uses} {a : Code} {k : ℕ} (j t : ℕ) → Typed l u a k → to k j ≡ some t → run f j a ≡ run g j a
+    run_alike j t (typed_node {k = k} {p = p} {t = ts} {ks = ks} e h) q =
         ap (substitute (from_one (λ i by. run_operand f ts i by))) (same k p j t ks e q)
-        ∙ typed-alike _ _
-        (from_alike to ks (λ i by. run_operand f ts i by) (λ i by. run_operand g ts i by) (λ i by c d x y. operand-alike i by c d h x y))
+        ∙ typed_alike _ _
+        (from_alike to ks (λ i by. run_operand f ts i by) (λ i by. run_operand g ts i by) (λ i by c d x y. operand_alike i by c d h x y))
         (w.nodes k p j t ks e q)
-    run-alike j t (typed-token e h) q = refl
-    run-alike j t (typed-argument e) q = refl
+    run_alike j t (typed_token e h) q = refl
+    run_alike j t (typed_argument e) q = refl
 
-    pub operand-alike : {u : Uses} {ts : Codes} {ks : List ℕ} (i j k t : ℕ) → TypedAll l u ts ks → get_elem? ks i ≡ some k → to k j ≡ some t
+    pub operand_alike : {u : Uses} {ts : Codes} {ks : List ℕ} (i j k t : ℕ) → TypedAll l u ts ks → get_elem? ks i ≡ some k → to k j ≡ some t
         → run_operand f ts i j ≡ run_operand g ts i j
-    operand-alike i j k t typed-nil e q = none_some e
-    operand-alike zero j k t (typed-cons h hs) e q = run-alike j t h (ap (λ (x : ℕ). to x j) (some_inj e) ∙ q)
-    operand-alike (suc i) j k t (typed-cons h hs) e q = operand-alike i j k t hs e q
+    operand_alike i j k t typed_nil e q = none_some e
+    operand_alike zero j k t (typed_cons h hs) e q = run_alike j t h (ap (λ (x : ℕ). to x j) (some_inj e) ∙ q)
+    operand_alike (suc i) j k t (typed_cons h hs) e q = operand_alike i j k t hs e q

@@ -35,15 +35,15 @@ module _ (s t b : List ℕ) (f : Translation) (w : Pieces s t b f) where
 
   -- in_order
   module _ (x : Bool) (ex : x ≡ rising (key_at 0x11 s) (places s)) where
-    pub order-source : x ≡ false → false ≡ all_rising f
-    order-source h = rw (← ex, h) at rising_three
+    pub order_source : x ≡ false → false ≡ all_rising f
+    order_source h = rw (← ex, h) at rising_three
 
     module _ (xt : x ≡ true) (y : Bool) (ey : y ≡ rising (key_at 0x11 t) (places t)) where
-      pub order-target : y ≡ false → false ≡ all_rising f
-      order-target h = rw (← ex, xt, ← ey, h) at rising_three
+      pub order_target : y ≡ false → false ≡ all_rising f
+      order_target h = rw (← ex, xt, ← ey, h) at rising_three
 
-      pub order-body : y ≡ true → (z : Bool) → z ≡ rising (order_at 0x22 b) (places b) → z ≡ all_rising f
-      order-body h z ez = rw (← ex, xt, ← ey, h, ← ez) at rising_three
+      pub order_body : y ≡ true → (z : Bool) → z ≡ rising (order_at 0x22 b) (places b) → z ≡ all_rising f
+      order_body h z ez = rw (← ex, xt, ← ey, h, ← ez) at rising_three
 
   -- Clashes, by the walk over the two languages.
   clash_two : (result_is_class s || result_is_class t) ≡ (clashes f.source f.source || clashes f.target f.target)
@@ -55,8 +55,8 @@ module _ (s t b : List ℕ) (f : Translation) (w : Pieces s t b f) where
 
   -- languages_clash
   module _ (x : Bool) (ex : x ≡ result_is_class s) where
-    pub clash-source : x ≡ true → true ≡ (clashes f.source f.source || clashes f.target f.target)
-    clash-source h = rw (← ex, h) at clash_two
+    pub clash_source : x ≡ true → true ≡ (clashes f.source f.source || clashes f.target f.target)
+    clash_source h = rw (← ex, h) at clash_two
 
-    pub clash-target : x ≡ false → (y : Bool) → y ≡ result_is_class t → y ≡ (clashes f.source f.source || clashes f.target f.target)
-    clash-target h y ey = rw (← ex, h, ← ey) at clash_two
+    pub clash_target : x ≡ false → (y : Bool) → y ≡ result_is_class t → y ≡ (clashes f.source f.source || clashes f.target f.target)
+    clash_target h y ey = rw (← ex, h, ← ey) at clash_two

@@ -46,14 +46,14 @@ module _ (s r : Replacing) (e : (i j : ℕ) → j < 16 → s i j ≡ r i j) wher
   mutual
     unfolding substitute
 
-    pub small-alike : (a : Code) → Small a → substitute s a ≡ substitute r a
-    small-alike (node k p t) h = ap (node k p) (small-alikeAll t h)
-    small-alike (token v) h = refl
-    small-alike (argument i j) h = e i j h
+    pub small_alike : (a : Code) → Small a → substitute s a ≡ substitute r a
+    small_alike (node k p t) h = ap (node k p) (small_alike_all t h)
+    small_alike (token v) h = refl
+    small_alike (argument i j) h = e i j h
 
-    pub small-alikeAll : (t : Codes) → SmallAll t → substitute_all s t ≡ substitute_all r t
-    small-alikeAll nil h = refl
-    small-alikeAll (cons a t) h = λ i. cons (small-alike a h.0 i) (small-alikeAll t h.1 i)
+    pub small_alike_all : (t : Codes) → SmallAll t → substitute_all s t ≡ substitute_all r t
+    small_alike_all nil h = refl
+    small_alike_all (cons a t) h = λ i. cons (small_alike a h.0 i) (small_alike_all t h.1 i)
 
 -- The replacements of a code that was run through f: a use by i and j paired is the run by j of what replaces it by i.
 abbrev pub after : Clauses → Replacing → Replacing
@@ -81,19 +81,19 @@ module _ (f : Clauses) (w : (k p j : ℕ) → Small (f k p j)) (s : Replacing) w
   mutual
     unfolding substitute run
 
-    pub run-substitute : (a : Code) (j : ℕ) → j < 16 → run f j (substitute s a) ≡ substitute (after f s) (run f j a)
-    run-substitute (node k p t) j h =
-        small-alike _ _
-        (from_one_lem (after f s) (λ i by. run_operand f (substitute_all s t) i by) (λ i by. run_operand f t i by) (λ i by l. operand-substitute t i by l))
+    pub run_substitute : (a : Code) (j : ℕ) → j < 16 → run f j (substitute s a) ≡ substitute (after f s) (run f j a)
+    run_substitute (node k p t) j h =
+        small_alike _ _
+        (from_one_lem (after f s) (λ i by. run_operand f (substitute_all s t) i by) (λ i by. run_operand f t i by) (λ i by l. operand_substitute t i by l))
         (f k p j) (w k p j)
         ∙ sym (substitute_substitute (after f s) (from_one (λ i by. run_operand f t i by)) (f k p j))
-    run-substitute (token v) j h = refl
-    run-substitute (argument a i) j h = sym (λ x. run f (pair_second i j h x) (s a (pair_first i j h x)))
+    run_substitute (token v) j h = refl
+    run_substitute (argument a i) j h = sym (λ x. run f (pair_second i j h x) (s a (pair_first i j h x)))
 
-    pub operand-substitute : (t : Codes) (i j : ℕ) → j < 16 → run_operand f (substitute_all s t) i j ≡ substitute (after f s) (run_operand f t i j)
-    operand-substitute nil i j h = refl
-    operand-substitute (cons a t) zero j h = run-substitute a j h
-    operand-substitute (cons a t) (suc i) j h = operand-substitute t i j h
+    pub operand_substitute : (t : Codes) (i j : ℕ) → j < 16 → run_operand f (substitute_all s t) i j ≡ substitute (after f s) (run_operand f t i j)
+    operand_substitute nil i j h = refl
+    operand_substitute (cons a t) zero j h = run_substitute a j h
+    operand_substitute (cons a t) (suc i) j h = operand_substitute t i j h
 
 -- Clauses of the second, each run through the first: of i and j paired, the code of number i run by j.
 abbrev pub chained : Clauses → Clauses → Clauses
@@ -110,19 +110,19 @@ module _ (f g : Clauses) (w : (k p j : ℕ) → Small (f k p j)) where
   mutual
     unfolding run
 
-    pub run-chained : (a : Code) (n : ℕ) → ByZero a → run (chained f g) n a ≡ run f (n % 16) (run g (n / 16) a)
-    run-chained (node k p t) n c =
-        (λ x. substitute (λ i m. chained_one (λ i by. run_operand (chained f g) t i by) (λ i by. run_operand g t i by) (λ i by. operand-chained t i by c) i m x)
+    pub run_chained : (a : Code) (n : ℕ) → ByZero a → run (chained f g) n a ≡ run f (n % 16) (run g (n / 16) a)
+    run_chained (node k p t) n c =
+        (λ x. substitute (λ i m. chained_one (λ i by. run_operand (chained f g) t i by) (λ i by. run_operand g t i by) (λ i by. operand_chained t i by c) i m x)
         (run f (n % 16) (g k p (n / 16))))
-        ∙ sym (run-substitute f w (from_one (λ i by. run_operand g t i by)) (g k p (n / 16)) (n % 16) (omega arith))
-    run-chained (token v) n c = refl
-    run-chained (argument a i) n c = ap (argument a) (let e : paired i n ≡ paired (paired i (n / 16)) (n % 16) = omega arith in e)
+        ∙ sym (run_substitute f w (from_one (λ i by. run_operand g t i by)) (g k p (n / 16)) (n % 16) (omega arith))
+    run_chained (token v) n c = refl
+    run_chained (argument a i) n c = ap (argument a) (let e : paired i n ≡ paired (paired i (n / 16)) (n % 16) = omega arith in e)
 
-    pub operand-chained : (t : Codes) (i n : ℕ) → ByZeroAll t → run_operand (chained f g) t i n ≡ run f (n % 16) (run_operand g t i (n / 16))
-    operand-chained nil i n c = refl
-    operand-chained (cons a t) zero n c = run-chained a n c.0
-    operand-chained (cons a t) (suc i) n c = operand-chained t i n c.1
+    pub operand_chained : (t : Codes) (i n : ℕ) → ByZeroAll t → run_operand (chained f g) t i n ≡ run f (n % 16) (run_operand g t i (n / 16))
+    operand_chained nil i n c = refl
+    operand_chained (cons a t) zero n c = run_chained a n c.0
+    operand_chained (cons a t) (suc i) n c = operand_chained t i n c.1
 
   -- The same, said with the two numbers.
   pub run_pair : (a : Code) (i j : ℕ) → ByZero a → j < 16 → run (chained f g) (paired i j) a ≡ run f j (run g i a)
-  run_pair a i j c h = run-chained a (paired i j) c ∙ (λ x. run f (pair_second i j h x) (run g (pair_first i j h x) a))
+  run_pair a i j c h = run_chained a (paired i j) c ∙ (λ x. run f (pair_second i j h x) (run g (pair_first i j h x) a))

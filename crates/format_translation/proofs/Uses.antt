@@ -216,9 +216,9 @@ module _ (s : List ℕ) (p : ℕ) (uses : List ℕ) (b : Body) (w : Front s p) (
   filled_end h = is_mapped (λ k j. rw (places_done s p h))
 
   module _ (here : p < length s) where
-    pub filled-clause : is_clause_tag (get_or s p 0) ≡ true → Mapped uses b
+    pub filled_clause : is_clause_tag (get_or s p 0) ≡ true → Mapped uses b
     unfolding items_whole
-    filled-clause t = is_mapped (λ k j. rw (places_next s p here) (clauses_none s k j (p ∷ places_from s (field_end s p)) again))
+    filled_clause t = is_mapped (λ k j. rw (places_next s p here) (clauses_none s k j (p ∷ places_from s (field_end s p)) again))
       where
         again : items_whole s true (p ∷ places_from s (field_end s p)) ≡ true
         again = let y = turn s p w here in both_and _ _ (both_and _ _ y.0 (rw t)) y.2
@@ -227,8 +227,8 @@ module _ (s : List ℕ) (p : ℕ) (uses : List ℕ) (b : Body) (w : Front s p) (
       module _ (long : length uses ≡ 8192) (m : Put s p) (more : List ℕ) (key : ℕ) (ek : key ≡ order_at 0x22 s p)
           (v : ℕ) (ev : v ≡ m.target + 1) (em : more ≡ put_at uses key v) where
         -- At its own kind and number.
-        same-use : get_or more (m.source * 256 + m.number) 0 ≡ (cond (eqb (get_or uses (m.source * 256 + m.number) 0) 0) v (get_or uses (m.source * 256 + m.number) 0))
-        same-use =
+        same_use : get_or more (m.source * 256 + m.number) 0 ≡ (cond (eqb (get_or uses (m.source * 256 + m.number) 0) 0) v (get_or uses (m.source * 256 + m.number) 0))
+        same_use =
             let q : key ≡ m.source * 256 + m.number = ek ∙ m.key in
             let k = m.kind in
             let y = m.byte in
@@ -239,8 +239,8 @@ module _ (s : List ℕ) (p : ℕ) (uses : List ℕ) (b : Body) (w : Front s p) (
             (λ d. rw (em, q, d) (ap (λ (l : List ℕ). get_or l (m.source * 256 + m.number) 0) (sym (put_not uses (m.source * 256 + m.number) v (eqb-false _ _ d)))))
 
         -- At any other.
-        other-use : (i : ℕ) → (i ≡ m.source * 256 + m.number → ⊥) → get_or more i 0 ≡ get_or uses i 0
-        other-use i n =
+        other_use : (i : ℕ) → (i ≡ m.source * 256 + m.number → ⊥) → get_or more i 0 ≡ get_or uses i 0
+        other_use i n =
             let q : key ≡ m.source * 256 + m.number = ek ∙ m.key in
             by_test (eqb (get_or uses (m.source * 256 + m.number) 0) 0)
             (λ d. rw (em, q) (ap (λ (l : List ℕ). get_or l i 0) (sym (put_in uses (m.source * 256 + m.number) v (eqb-true _ _ d)))
@@ -248,17 +248,17 @@ module _ (s : List ℕ) (p : ℕ) (uses : List ℕ) (b : Body) (w : Front s p) (
             (λ d. rw (em, q) (ap (λ (l : List ℕ). get_or l i 0) (sym (put_not uses (m.source * 256 + m.number) v (eqb-false _ _ d)))))
 
         -- What was to come is this mapping and the rest.
-        before-this : (k j : ℕ) → k < 32 → j < 256
+        before_this : (k j : ℕ) → k < 32 → j < 256
             → or_else (kind_before (get_or uses (k * 256 + j) 0)) (first (target_at k j) (mapping m.source m.number m.target ∷ map (item_at s) (places_from s e))) ≡ mapping_of b k j
-        before-this k j h i = rw (places_next s p here, ← ee, m.is) at (f k j h i)
+        before_this k j h i = rw (places_next s p here, ← ee, m.is) at (f k j h i)
 
-        hit-as : (x y k j : ℕ) → x ≡ k → y ≡ j
+        hit_as : (x y k j : ℕ) → x ≡ k → y ≡ j
             → or_else (kind_before (get_or more (x * 256 + y) 0)) (first (target_at x y) (map (item_at s) (places_from s e))) ≡ mapping_of b x y
             → or_else (kind_before (get_or more (k * 256 + j) 0)) (first (target_at k j) (map (item_at s) (places_from s e))) ≡ mapping_of b k j
-        hit-as x y k j ex ey g = rw (← ex, ← ey) g
+        hit_as x y k j ex ey g = rw (← ex, ← ey) g
 
-        pub filling-next : Filling s e more b
-        filling-next k j h i =
+        pub filling_next : Filling s e more b
+        filling_next k j h i =
             by_test (eqb m.source k && eqb m.number j)
-            (λ d. let (x, y) = and_both _ _ d in hit-as m.source m.number k j (eqb-true _ _ x) (eqb-true _ _ y) (hit_use m.source m.number m.target v uses more (map (item_at s) (places_from s e)) ev same-use (before-this m.source m.number m.kind m.byte)))
-            (λ d. miss_use m.source m.number m.target k j uses more (map (item_at s) (places_from s e)) d m.byte i other-use (before-this k j h i))
+            (λ d. let (x, y) = and_both _ _ d in hit_as m.source m.number k j (eqb-true _ _ x) (eqb-true _ _ y) (hit_use m.source m.number m.target v uses more (map (item_at s) (places_from s e)) ev same_use (before_this m.source m.number m.kind m.byte)))
+            (λ d. miss_use m.source m.number m.target k j uses more (map (item_at s) (places_from s e)) d m.byte i other_use (before_this k j h i))

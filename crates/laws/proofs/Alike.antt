@@ -65,8 +65,8 @@ module _ (g v : Translation) (sg : Sound g) (sv : Sound v) (l : Lies g v) where
     paired_alike (clause r p i d) m j = ap (λ (x : Code). clause r p (paired i j) (write code (run (clauses_of f) j x))) (code_alike r p i d m)
 
     -- So is all that comes of the item.
-    pub item-alike : (a : Item) → Mem a g.body → join_item f g a ≡ join_item f v a
-    item-alike a m =
+    pub item_alike : (a : Item) → Mem a g.body → join_item f g a ≡ join_item f v a
+    item_alike a m =
         join_item_lem f g a
         ∙ ((λ z. map (λ j. paired_alike a m j z) (numbers_of f.body (reached_alike a m z)))
         ∙ sym (join_item_lem f v a))

@@ -49,30 +49,30 @@ module _ (f : Translation) where
   fits_stay (clause r p j c) e = let q = some_is (code_by earlier f r p j c) e in rw (code_stays r p j c q.0 q.1)
 
   module _ (fits : all (code_fits_by earlier f) f.body ≡ true) where
-    codes-stay : codes_fit f ≡ true
+    codes_stay : codes_fit f ≡ true
     unfolding codes_fit
-    codes-stay = mem_all (code_fits f) f.body (λ i m. fits_stay i (all_mem (code_fits_by earlier f) f.body fits i m))
+    codes_stay = mem_all (code_fits f) f.body (λ i m. fits_stay i (all_mem (code_fits_by earlier f) f.body fits i m))
 
     -- Where there is no clause there is no code by either rule.
     no_clause : (k p j : ℕ) → code_by earlier f k p j [] ≡ whole_code (read_clause f k p j [])
     unfolding code_by read_clause read_by read_level read_code_level
     no_clause k p j = refl
 
-    clause-stays : (k p j : ℕ) (o : Option (List ℕ)) → clause_of f.body k p j ≡ o
+    clause_stays : (k p j : ℕ) (o : Option (List ℕ)) → clause_of f.body k p j ≡ o
         → code_by earlier f k p j (get_or o []) ≡ whole_code (read_clause f k p j (get_or o []))
     unfolding code_fits_by
-    clause-stays k p j none e = no_clause k p j
-    clause-stays k p j (some c) e =
+    clause_stays k p j none e = no_clause k p j
+    clause_stays k p j (some c) e =
         let q = some_is (code_by earlier f k p j c) (all_mem (code_fits_by earlier f) f.body fits (clause k p j c) (clause_mem f.body k p j c e)) in
         rw (q.1, code_stays k p j c q.0 q.1)
 
-    clauses-stay : (k p j : ℕ) → clauses_by earlier f k p j ≡ clauses_of f k p j
+    clauses_stay : (k p j : ℕ) → clauses_by earlier f k p j ≡ clauses_of f k p j
     unfolding clauses_by clauses_of
-    clauses-stay k p j = ap (λ (o : Option Code). get_or o (token 0)) (clause-stays k p j (clause_of f.body k p j) refl)
+    clauses_stay k p j = ap (λ (o : Option Code). get_or o (token 0)) (clause_stays k p j (clause_of f.body k p j) refl)
 
-    run-stays : (number : ℕ) (t : Code) → run (clauses_by earlier f) number t ≡ transform f number t
+    run_stays : (number : ℕ) (t : Code) → run (clauses_by earlier f) number t ≡ transform f number t
     unfolding transform
-    run-stays number t = λ i. run (λ k p j. clauses-stay k p j i) number t
+    run_stays number t = λ i. run (λ k p j. clauses_stay k p j i) number t
 
   formed_stays : (g : Translation) → well_formed_by earlier f ≡ value g
       → (well_formed f ≡ value g) × (all (code_fits_by earlier f) f.body ≡ true) × (f ≡ g)
@@ -82,7 +82,7 @@ module _ (f : Translation) where
       let b = refuse_value (not (clauses_fit f)) WrongClauses _ a.1 in
       let c = refuse_value (not (all (code_fits_by earlier f) f.body)) IllegalCode _ b.1 in
       let d = true_not _ c.0 in
-      (rw (a.0, b.0, codes-stay d) c.1, d, value_inj c.1)
+      (rw (a.0, b.0, codes_stay d) c.1, d, value_inj c.1)
 
 translation_stays : (s : List ℕ) (g : Translation) → translation_by earlier s ≡ value g
     → (translation_of s ≡ value g) × (all (code_fits_by earlier g) g.body ≡ true)
@@ -111,7 +111,7 @@ sessions_stay s root number bytes room result e =
     let h = refuse_value (not (is_some (mapping_of a.0.body root number))) UnknownRoot _ a.2 in
     let b = step_value (tree_by earlier a.0.source root bytes) _ h.1 in
     rw (w.0, h.0, tree_stays a.0.source root bytes b.0 b.1)
-    (ap (λ (c : Code). fitted room (write tree c)) (sym (run-stays a.0 w.1 number b.0)) ∙ b.2)
+    (ap (λ (c : Code). fitted room (write tree c)) (sym (run_stays a.0 w.1 number b.0)) ∙ b.2)
 
 -- By the current rule these are the definitions of the operations.
 fits_same : (f : Translation) (i : Item) → code_fits_by current f i ≡ code_fits f i

@@ -11,9 +11,9 @@ use Rattle.format_fields.proofs.Keyed.{rising_ext}
 use Rattle.format_language.specs.Language.{Language, arguments_of}
 use Rattle.format_language.proofs.Lookup.{mem_arguments}
 use Rattle.tree_reader.specs.Code.{Code, Codes}
-use Rattle.tree_reader.specs.Typing.{Uses, kind_at, Typed, TypedAll, typed-node, typed-token, typed-argument, typed-nil, typed-cons}
+use Rattle.tree_reader.specs.Typing.{Uses, kind_at, Typed, TypedAll, typed_node, typed_token, typed_argument, typed_nil, typed_cons}
 use Rattle.tree_reader.specs.Syntax.{write, code}
-use Rattle.tree_reader.proofs.Larger.{typed-larger}
+use Rattle.tree_reader.proofs.Larger.{typed_larger}
 use Rattle.format_translation.specs.Translation.{Item, mapping, clause, Translation, item_key, mapping_of, mapped}
 use Rattle.format_translation.specs.Running.{paired, run, clauses_of}
 use Rattle.format_translation.proofs.Lookup.{mapping_mem, mem_mapping, number_mem, mem_number}
@@ -33,15 +33,15 @@ use Rattle.laws.proofs.Signs.{operands_join, join_value, value_good}
 -- A use that is typed is by a number that a mapping has: where that is 0 only, so are all uses.
 module _ {m : Language} {u : Uses} (only : (i j k : ℕ) → kind_at u i j ≡ some k → j ≡ 0) where
   mutual
-    typed-zero : {a : Code} {k : ℕ} → Typed m u a k → ByZero a
-    typed-zero (typed-node e h) = typed-zeroAll h
-    typed-zero (typed-token e h) = tt
-    typed-zero (typed-argument {i = i} {j = j} {k = k} e) = only i j k e
+    typed_zero : {a : Code} {k : ℕ} → Typed m u a k → ByZero a
+    typed_zero (typed_node e h) = typed_zero_all h
+    typed_zero (typed_token e h) = tt
+    typed_zero (typed_argument {i = i} {j = j} {k = k} e) = only i j k e
 
     -- The same of a list of codes.
-    typed-zeroAll : {t : Codes} {ks : List ℕ} → TypedAll m u t ks → ByZeroAll t
-    typed-zeroAll typed-nil = tt
-    typed-zeroAll (typed-cons h hs) = (typed-zero h, typed-zeroAll hs)
+    typed_zero_all : {t : Codes} {ks : List ℕ} → TypedAll m u t ks → ByZeroAll t
+    typed_zero_all typed_nil = tt
+    typed_zero_all (typed_cons h hs) = (typed_zero h, typed_zero_all hs)
 
 -- Where a join has low numbers only, its second has number 0 only.
 zero_mapping : (f g : Translation) (s : SoundJoin f g) → numbers_low (joined f g) ≡ true → (k i u : ℕ) → mapping_of g.body k i ≡ some u → i ≡ 0
@@ -91,7 +91,7 @@ module _ (f g h : Translation) (fg : SoundJoin f g) (gh : SoundJoin g h) (low : 
 
   -- It uses by number 0 only.
   code_zero : (r p n : ℕ) (x : Third r p n) → ByZero (clauses_of h r p n)
-  code_zero r p n x = typed-zero only (code_typed r p n x)
+  code_zero r p n x = typed_zero only (code_typed r p n x)
     where
       only : (i j k : ℕ) → kind_at (map (mapping_of h.body) x.arguments) i j ≡ some k → j ≡ 0
       only zero j k e = none_some e
@@ -110,7 +110,7 @@ module _ (f g h : Translation) (fg : SoundJoin f g) (gh : SoundJoin g h) (low : 
       let x = third r p n c m in
       let on = mapped_on r p n x i w e in
       let z = zero_mapping g h gh low r n x.reaches x.maps in
-      let y = typed-larger (target_larger g h gh.first gh.second gh.says.fits) (code_typed r p n x) in
+      let y = typed_larger (target_larger g h gh.first gh.second gh.says.fits) (code_typed r p n x) in
       let left = code_runs f g fg i w j t y (code_zero r p n x) on d in
       let right = ap (run (clauses_of f) j) (code_joined g h gh r p n x.reaches i w x.arguments x.entry x.maps on) in
       let same = left ∙ sym right in

@@ -17,7 +17,7 @@ use Rattle.reduce_operators.specs.Limits.{code_is_deep}
 use Rattle.reduce_operators.proofs.Accepted.{code_shallow}
 use Rattle.reduce_operators.proofs.Proper.{Sound}
 use Rattle.reduce_operators.proofs.JoinRises.{low_is}
-use Rattle.reduce_operators.proofs.JoinSound.{join-mapped, join-chained, join-clauses, join-codes, join_runs}
+use Rattle.reduce_operators.proofs.JoinSound.{join_mapped, join_chained, join_clauses, join_codes, join_runs}
 use Rattle.laws.proofs.Signs.{Joins}
 
 -- The kind that a kind with this number maps to.
@@ -49,12 +49,12 @@ sound_value f g v sf sg sv j = record {
 module _ (f g : Translation) (s : SoundJoin f g) where
   -- What a kind maps to by two numbers paired.
   pub mapped_pair : (k i u j t : ℕ) → mapping_of g.body k i ≡ some u → mapping_of f.body u j ≡ some t → mapping_of (joined f g).body k (paired i j) ≡ some t
-  mapped_pair = join-mapped f g s.first s.second s.says.fits s.says.low_first s.says.low_second
+  mapped_pair = join_mapped f g s.first s.second s.says.fits s.says.low_first s.says.low_second
 
   -- And it maps by them only so.
   pub pair_mapped : (k i j t : ℕ) → j < 16 → mapping_of (joined f g).body k (paired i j) ≡ some t
       → (u : ℕ) × (mapping_of g.body k i ≡ some u) × (mapping_of f.body u j ≡ some t)
-  pair_mapped = join-chained f g s.first s.second s.says.fits s.says.low_first s.says.low_second
+  pair_mapped = join_chained f g s.first s.second s.says.fits s.says.low_first s.says.low_second
 
   -- No code of it is too deep.
   shallows : (a : Item) → Mem a (joined f g).body → code_is_deep (joined f g) a ≡ false
@@ -65,13 +65,13 @@ module _ (f g : Translation) (s : SoundJoin f g) where
       → clauses_of (joined f g) r p (paired i j) ≡ run (clauses_of f) j (clauses_of g r p i)
   code_joined r p i u j t ks e m n =
       let low = mapping_low f s.says.low_first u j t n in
-      sym (join-clauses f g s.first s.second s.says.fits s.says.low_first s.says.low_second shallows r p (paired i j) t ks e (mapped_pair r i u j t m n))
+      sym (join_clauses f g s.first s.second s.says.fits s.says.low_first s.says.low_second shallows r p (paired i j) t ks e (mapped_pair r i u j t m n))
       ∙ (λ z. run (clauses_of f) (pair_second i j low z) (clauses_of g r p (pair_first i j low z)))
 
   -- A code that uses by number 0 only is run through the second and then the first.
   pub code_runs : {uses : Uses} {a : Code} {k : ℕ} (i u j t : ℕ) → Typed g.source uses a k → ByZero a → mapping_of g.body k i ≡ some u → mapping_of f.body u j ≡ some t
       → run (clauses_of (joined f g)) (paired i j) a ≡ run (clauses_of f) j (run (clauses_of g) i a)
-  code_runs = join-codes f g s.first s.second s.says.fits s.says.low_first s.says.low_second shallows
+  code_runs = join_codes f g s.first s.second s.says.fits s.says.low_first s.says.low_second shallows
 
   -- So is a tree.
   pub tree_runs : {a : Code} {k : ℕ} (i u j t : ℕ) → Typed g.source [] a k → mapping_of g.body k i ≡ some u → mapping_of f.body u j ≡ some t

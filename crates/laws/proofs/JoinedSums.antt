@@ -15,7 +15,7 @@ use Rattle.reduce_operators.proofs.Proper.{Sound, GoodTranslation}
 use Rattle.reduce_operators.proofs.SumSound.{Part, part_code}
 use Rattle.format_translation.proofs.ItemParts.{mapping_parts, mapping_clause}
 use Rattle.reduce_operators.proofs.JoinRises.{mem_join, join_cases, joined_rises}
-use Rattle.reduce_operators.proofs.JoinSound.{clause-source, sound-join}
+use Rattle.reduce_operators.proofs.JoinSound.{clause_source, sound_join}
 use Rattle.reduce_signs.specs.Evaluation.{Constants, nothing_bound, evaluate}
 use Rattle.reduce_terms.proofs.Evaluated.{GoodConstants}
 use Rattle.laws.proofs.Subsets.{Subset, Lies, InEither, lies_within}
@@ -69,16 +69,16 @@ module _ (g v : Translation) (sg : Sound g) (sv : Sound v) (l : Lies g v) (f : T
     }
 
     -- No code of the join after g is too deep: it is read as in the join after v.
-    joined-shallow : (a : Item) → Mem a (joined f g).body → code_is_deep (joined f g) a ≡ false
+    joined_shallow : (a : Item) → Mem a (joined f g).body → code_is_deep (joined f g) a ≡ false
     unfolding code_is_deep joined
-    joined-shallow (mapping s j t) m = refl
-    joined-shallow (clause r p n d) m =
-        let x = clause-source f g sf sg fits first second r p n d m in
+    joined_shallow (mapping s j t) m = refl
+    joined_shallow (clause r p n d) m =
+        let x = clause_source f g sf sg fits first second r p n d m in
         ap is_deep (part_code (joined f v) (joined f g) sj.fits back_part r p n x.0 d (l.source _ x.1) x.1 (joined_onward _ m))
 
     -- So it is sound.
     part_sound : Sound (joined f g)
-    part_sound = sound-join f g sf sg fits first second joined-shallow
+    part_sound = sound_join f g sf sg fits first second joined_shallow
 
 -- Where all of w is in x or y, all of the join after w is in the join after x or the one after y.
 joined_either : (f x y w : Translation) → Sound x → Sound y → Sound w → Lies x w → Lies y w → InEither x y w → InEither (joined f x) (joined f y) (joined f w)

@@ -19,7 +19,7 @@ use Rattle.reduce_operators.proofs.SumSound.{sound_without}
 use Rattle.reduce_operators.proofs.JoinRises.{join_item_lem}
 use Rattle.reduce_terms.proofs.Evaluated.{GoodConstants}
 use Rattle.laws.proofs.Subsets.{Lies, lies_within}
-use Rattle.laws.proofs.Alike.{part_fits, part_low, item-alike}
+use Rattle.laws.proofs.Alike.{part_fits, part_low, item_alike}
 use Rattle.laws.proofs.Signs.{join_value, value_join, without_value, value_without, value_good}
 
 -- All of a mapped list is kept, or nothing of it.
@@ -85,13 +85,13 @@ module _ (g : Translation) (l : Language) where
         (λ e.
         rw e
         (sym (join_item_lem f g a)
-        ∙ sym (item-alike (translation_without g l) g (sound_without g l s) s lies_without f a (mem_keep (is_of left) a g.body m e))))
+        ∙ sym (item_alike (translation_without g l) g (sound_without g l s) s lies_without f a (mem_keep (is_of left) a g.body m e))))
         (λ e. rw e))
 
     -- A join after what is left is what is left of the join.
-    pub joined-left : joined f (translation_without g l) ≡ translation_without (joined f g) l
+    pub joined_left : joined f (translation_without g l) ≡ translation_without (joined f g) l
     unfolding joined translation_without left
-    joined-left = λ i. record {
+    joined_left = λ i. record {
       source = left;
       target = f.target;
       body = sym (keep_concat (is_of left) (is_of left) (join_item f g) (join_item f (translation_without g l)) g.body item_kept) i;
@@ -111,7 +111,7 @@ joined_without c good f g l v e =
     let lies = lies_without y m in
     let gy = value_good c good g y j.second-value in
     let p = value_without c g l y m j.second-value w.3 (lies_within z y (sound_without y m gy.sound) gy lies) in
-    let same : joined x z ≡ v = joined-left y m x gy.sound ∙ (ap (λ (t : Translation). translation_without t m) j.says.is ∙ w.4.is) in
+    let same : joined x z ≡ v = joined_left y m x gy.sound ∙ (ap (λ (t : Translation). translation_without t m) j.says.is ∙ w.4.is) in
     value_join c f (without g l) x z j.first-value p (part_fits x z y lies j.says.fits) j.says.low_first (part_low z y lies j.says.low_second)
     (subst (λ (t : Translation). translation_exceeds t ≡ false) (sym same) w.4.within)
     ∙ ap value same

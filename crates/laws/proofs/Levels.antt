@@ -12,7 +12,7 @@ use Rattle.format_fields.proofs.Truth.{and_both, not_true, not_both, none_some, 
 use Rattle.format_language.specs.Language.{Language, production, range_of, arguments_of, result_is, is_in, is_undefined, clashes}
 use Rattle.format_language.proofs.Lookup.{arguments_mem}
 use Rattle.tree_reader.specs.Code.{Code, levels}
-use Rattle.tree_reader.specs.Typing.{Uses, kind_at, Typed, typed-node, typed-token, typed-argument}
+use Rattle.tree_reader.specs.Typing.{Uses, kind_at, Typed, typed_node, typed_token, typed_argument}
 use Rattle.tree_reader.specs.Syntax.{Syntax, deep, read, write, tree, code}
 use Rattle.tree_reader.proofs.RoundTrip.{Written, as_tree, as_code, round}
 use Rattle.tree_reader.proofs.Sound.{read_done, more_levels}
@@ -57,9 +57,9 @@ module _ (l : Language) (k : ℕ) (u : is_undefined l k ≡ true) where
       not_both (mem_any (result_is k) l (production k p ks) (arguments_mem l k p ks e) (eq-eqb k k refl)) (not_true _ neither.1)
 
   no_typed : (t : Code) → Typed l [] t k → ⊥
-  no_typed t (typed-node e h) = no_production _ _ e
-  no_typed t (typed-token e h) = not_both (is_some_lem (range_of l k) e) (not_true _ neither.0)
-  no_typed t (typed-argument {i = i} {j = j} e) = no_argument i j k e
+  no_typed t (typed_node e h) = no_production _ _ e
+  no_typed t (typed_token e h) = not_both (is_some_lem (range_of l k) e) (not_true _ neither.0)
+  no_typed t (typed_argument {i = i} {j = j} e) = no_argument i j k e
 
 pub undefined_has_no_tree : UndefinedHasNoTree
 undefined_has_no_tree l k u = record {

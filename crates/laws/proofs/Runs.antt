@@ -23,13 +23,13 @@ use Rattle.tree_reader.specs.Code.{Code, levels}
 use Rattle.tree_reader.specs.Typing.{Typed}
 use Rattle.tree_reader.specs.Syntax.{done, deep, read, write, tree}
 use Rattle.tree_reader.specs.Operations.{tree_levels, tree_of}
-use Rattle.tree_reader.proofs.Larger.{typed-larger}
+use Rattle.tree_reader.proofs.Larger.{typed_larger}
 use Rattle.check_operations.proofs.Legal.{tree_right, tree_of_lem}
 use Rattle.format_translation.specs.Translation.{Translation, mapping_of, mapped}
 use Rattle.format_translation.specs.Running.{paired, transform}
 use Rattle.format_translation.specs.TranslationFile.{encode_translation, translation_of}
 use Rattle.format_translation.specs.Operations.{fitted, run_bytes, run_tree}
-use Rattle.format_translation.proofs.Preserved.{kept_tree, typed-run}
+use Rattle.format_translation.proofs.Preserved.{kept_tree, typed_run}
 use Rattle.format_translation.proofs.Fitting.{refuse_value, fit_carries}
 use Rattle.format_pack.specs.Terms.{Term, translations, join}
 use Rattle.reduce_operators.specs.Operators.{joined}
@@ -48,7 +48,7 @@ use Rattle.laws.proofs.Joined.{mapped_to, SoundJoin, sound_value, mapped_pair, p
 -- A transformation of a typed tree is typed.
 transform_typed : (f : Translation) → Sound f → (t : Code) (k j u : ℕ) → mapping_of f.body k j ≡ some u → Typed f.source [] t k → Typed f.target [] (transform f j t) u
 unfolding transform
-transform_typed f s t k j u e h = typed-run (fit_carries f s.rises s.fits) (kept_tree (mapping_of f.body)) j u h e
+transform_typed f s t k j u e h = typed_run (fit_carries f s.rises s.fits) (kept_tree (mapping_of f.body)) j u h e
 
 -- What is a tree is typed.
 tree_typed : (l : Language) (k : ℕ) (bytes : List ℕ) (t : Code) → tree_of l k bytes ≡ value t → Typed l [] t k × (is_in l k ≡ true)
@@ -257,11 +257,11 @@ module _ (f g : Translation) (F G J : List ℕ) (pf : Operand f F) (pg : Operand
         (λ d. absurd (shallow (second_run (refused TooDeep) d)))
         (λ d. join-run ∙ sym (second_run (value (transform g i x)) d))
         (written_tree f.source u (transform g i x) (none_clashes f.source f.source s.first.source.apart)
-        (join_lies f g s.first s.second s.says.fits root i u reaches) (typed-larger (target_larger f g s.first s.second s.says.fits) y))
+        (join_lies f g s.first s.second s.says.fits root i u reaches) (typed_larger (target_larger f g s.first s.second s.says.fits) y))
 
-    join-same : (run_bytes F (mapped g.body root i) j middle space ≡ refused TooDeep → ⊥)
+    join_same : (run_bytes F (mapped g.body root i) j middle space ≡ refused TooDeep → ⊥)
         → run_bytes J root n bytes space ≡ run_bytes F (mapped g.body root i) j middle space
-    join-same shallow =
+    join_same shallow =
         let z = mapped_to g.body root i u reaches in
         rw z (by_option (mapping_of f.body u j) lacking (λ t q. having t q (λ d. shallow (rw z d))))
 
@@ -291,7 +291,7 @@ module _ (f g : Translation) (F G J : List ℕ) (pf : Operand f F) (pg : Operand
             let v = accepted_value one z in
             let m : one ≡ value middle = v.1 ∙ ap value (sym (put_out_lem a one v.0 v.1)) in
             same_run J F bytes middle root n (mapped g.body root i) j b c l
-            (join-same bytes middle (length a) (length b) m (λ q. shallow (refused_written two TooDeep q)));
+            (join_same bytes middle (length a) (length b) m (λ q. shallow (refused_written two TooDeep q)));
       }
 
 -- The law of runs.

@@ -81,8 +81,8 @@ module _ (c : Constants) where
   pub record JoinMade (a b : Term translations) (v : Translation) : Type 0 where
     pub first : Translation
     pub second : Translation
-    pub first-value : evaluate c nothing_bound a ≡ value first
-    pub second-value : evaluate c nothing_bound b ≡ value second
+    pub first_value : evaluate c nothing_bound a ≡ value first
+    pub second_value : evaluate c nothing_bound b ≡ value second
     pub says : Joins first second v
 
   -- The value of a join, taken apart.
@@ -91,7 +91,7 @@ module _ (c : Constants) where
   join_value a b v e =
       let p = step_value (evaluate c nothing_bound a) _ e in
       let q = step_value (evaluate c nothing_bound b) _ p.2 in
-      record { first = p.0; second = q.0; first-value = p.1; second-value = q.1; says = join_says p.0 q.0 v q.2 }
+      record { first = p.0; second = q.0; first_value = p.1; second_value = q.1; says = join_says p.0 q.0 v q.2 }
 
   -- And put together.
   pub value_join : (a b : Term translations) (x y : Translation) → evaluate c nothing_bound a ≡ value x → evaluate c nothing_bound b ≡ value y

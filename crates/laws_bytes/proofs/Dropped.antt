@@ -13,7 +13,7 @@ use Rattle.format_fields.proofs.Codec.{value_inj}
 use Rattle.format_language.specs.Language.{Language, arguments_of}
 use Rattle.format_language.proofs.Lookup.{result_in, arguments_mem}
 use Rattle.tree_reader.specs.Code.{Code, node, token, argument, Codes, nil, cons, levels, levels_all}
-use Rattle.tree_reader.specs.Typing.{kind_at, Typed, TypedAll, typed-node, typed-cons}
+use Rattle.tree_reader.specs.Typing.{kind_at, Typed, TypedAll, typed_node, typed_cons}
 use Rattle.tree_reader.specs.Syntax.{write, tree}
 use Rattle.tree_reader.specs.Operations.{tree_of}
 use Rattle.format_translation.specs.Translation.{Translation, mapped}
@@ -22,10 +22,10 @@ use Rattle.format_translation.specs.Running.{Replacing, substitute, substitute_a
 use Rattle.format_translation.specs.Plain.{plain}
 use Rattle.format_translation.proofs.Running.{ByZero, ByZeroAll}
 use Rattle.format_translation.proofs.Fitting.{uses_are}
-use Rattle.format_translation.proofs.PlainUses.{use_zero, typed-zero}
+use Rattle.format_translation.proofs.PlainUses.{use_zero, typed_zero}
 use Rattle.search_sources.specs.Sources.{before, search_of}
 use Rattle.search_sources.specs.Inner.Giving.{Gives}
-use Rattle.search_sources.specs.Inner.Order.{Earlier, EarlierAll, by-operands, at_first, after}
+use Rattle.search_sources.specs.Inner.Order.{Earlier, EarlierAll, by_operands, at_first, after}
 use Rattle.search_sources.proofs.Ordering.{Ordered, equal, first, second, order, earlier_before, one_way}
 use Rattle.search_sources.proofs.Theorems.{found_gives, nothing_before}
 use Rattle.laws_bytes.specs.Searches as Laws
@@ -51,13 +51,13 @@ module _ (Good : ℕ → Type 0) where
       unfolding substitute
 
       alike : (a : Code) → Agreed a → substitute s a ≡ substitute r a
-      alike (node k p t) h = ap (node k p) (alikeAll t h)
+      alike (node k p t) h = ap (node k p) (alike_all t h)
       alike (token v) h = refl
       alike (argument i j) h = rw h.0 (e i h.1)
 
-      alikeAll : (t : Codes) → AgreedAll t → substitute_all s t ≡ substitute_all r t
-      alikeAll nil h = refl
-      alikeAll (cons a t) h = λ i. cons (alike a h.0 i) (alikeAll t h.1 i)
+      alike_all : (t : Codes) → AgreedAll t → substitute_all s t ≡ substitute_all r t
+      alike_all nil h = refl
+      alike_all (cons a t) h = λ i. cons (alike a h.0 i) (alike_all t h.1 i)
 
 -- A code whose uses are by number 0: at any argument, and where it does not use argument i, at others.
 mutual
@@ -75,13 +75,13 @@ module _ (i : ℕ) where
     unfolding uses
 
     elsewhere : (a : Code) → ByZero a → uses i a ≡ false → Agreed (λ x. x ≡ i → ⊥) a
-    elsewhere (node k p t) h e = elsewhereAll t h e
+    elsewhere (node k p t) h e = elsewhere_all t h e
     elsewhere (token v) h e = tt
     elsewhere (argument x j) h e = (h, λ d. false_true (sym e ∙ eq-eqb x i d))
 
-    elsewhereAll : (t : Codes) → ByZeroAll t → uses_any i t ≡ false → AgreedAll (λ x. x ≡ i → ⊥) t
-    elsewhereAll nil h e = tt
-    elsewhereAll (cons a t) h e = let z = or_false (uses i a) (uses_any i t) e in (elsewhere a h.0 z.0, elsewhereAll t h.1 z.1)
+    elsewhere_all : (t : Codes) → ByZeroAll t → uses_any i t ≡ false → AgreedAll (λ x. x ≡ i → ⊥) t
+    elsewhere_all nil h e = tt
+    elsewhere_all (cons a t) h e = let z = or_false (uses i a) (uses_any i t) e in (elsewhere a h.0 z.0, elsewhere_all t h.1 z.1)
 
 -- A row with one operand replaced.
 abbrev put : {k i : ℕ} {u : Code} {ks : List ℕ} {t : Codes} → Operand k u i ks t → Code → Codes
@@ -89,8 +89,8 @@ put (Laws.first {t = t}) v = cons v t
 put (Laws.later {a = a} o) v = cons a (put o v)
 
 operand_typed : {l : Language} {k i : ℕ} {u : Code} {ks : List ℕ} {t : Codes} → Operand k u i ks t → TypedAll l [] t ks → Typed l [] u k
-operand_typed Laws.first (typed-cons h hs) = h
-operand_typed (Laws.later o) (typed-cons h hs) = operand_typed o hs
+operand_typed Laws.first (typed_cons h hs) = h
+operand_typed (Laws.later o) (typed_cons h hs) = operand_typed o hs
 
 operand_within : {k i n : ℕ} {u : Code} {ks : List ℕ} {t : Codes} → Operand k u i ks t → levels_all t ≤ n → levels u ≤ n
 unfolding levels
@@ -99,8 +99,8 @@ operand_within (Laws.later o) d = operand_within o (omega arith)
 
 module _ (v : Code) where
   put_typed : {l : Language} {k i : ℕ} {u : Code} {ks : List ℕ} {t : Codes} (o : Operand k u i ks t) → TypedAll l [] t ks → Typed l [] v k → TypedAll l [] (put o v) ks
-  put_typed Laws.first (typed-cons h hs) g = typed-cons g hs
-  put_typed (Laws.later o) (typed-cons h hs) g = typed-cons h (put_typed o hs g)
+  put_typed Laws.first (typed_cons h hs) g = typed_cons g hs
+  put_typed (Laws.later o) (typed_cons h hs) g = typed_cons h (put_typed o hs g)
 
   put_within : {k i n : ℕ} {u : Code} {ks : List ℕ} {t : Codes} (o : Operand k u i ks t) → levels_all t ≤ n → levels v ≤ n → levels_all (put o v) ≤ n
   unfolding levels
@@ -113,12 +113,12 @@ module _ (v : Code) where
 
   module _ (c : Clauses) where
     -- The other operands stay, and so does the replaced one's run, where it is the same.
-    put-others : {k i : ℕ} {u : Code} {ks : List ℕ} {t : Codes} (o : Operand k u i ks t) (x : ℕ) → (suc x ≡ i → ⊥) → run_operand c (put o v) x 0 ≡ run_operand c t x 0
+    put_others : {k i : ℕ} {u : Code} {ks : List ℕ} {t : Codes} (o : Operand k u i ks t) (x : ℕ) → (suc x ≡ i → ⊥) → run_operand c (put o v) x 0 ≡ run_operand c t x 0
     unfolding run
-    put-others Laws.first zero h = absurd (h refl)
-    put-others Laws.first (suc x) h = refl
-    put-others (Laws.later o) zero h = refl
-    put-others (Laws.later o) (suc x) h = put-others o x (λ e. h (ap suc e))
+    put_others Laws.first zero h = absurd (h refl)
+    put_others Laws.first (suc x) h = refl
+    put_others (Laws.later o) zero h = refl
+    put_others (Laws.later o) (suc x) h = put_others o x (λ e. h (ap suc e))
 
     put_same : {k i : ℕ} {u : Code} {ks : List ℕ} {t : Codes} (o : Operand k u i ks t) → run c 0 v ≡ run c 0 u → (x : ℕ) → run_operand c (put o v) x 0 ≡ run_operand c t x 0
     unfolding run
@@ -139,7 +139,7 @@ module _ (file : List ℕ) (f : Translation) (accepted : translation_of file ≡
   clause_zero : (k p : ℕ) (ks : List ℕ) → arguments_of f.source k p ≡ some ks → ByZero (clauses_of f k p 0)
   clause_zero k p ks e =
       let z = has_zero file f accepted k (result_in f.source k p ks (arguments_mem f.source k p ks e)) in
-      typed-zero (λ i j t q. use_zero f zero_only k p i j t (ap (λ u. kind_at u i j) (uses_are f k p ks e) ∙ q))
+      typed_zero (λ i j t q. use_zero f zero_only k p i j t (ap (λ u. kind_at u i j) (uses_are f k p ks e) ∙ q))
       ((carries file f accepted).nodes k p 0 (mapped f.body k 0) ks e z)
 
   -- The run of a production does not see an operand that its clause drops, nor one whose run stays the same.
@@ -152,7 +152,7 @@ module _ (file : List ℕ) (f : Translation) (accepted : translation_of file ≡
     where
       agree : (x : ℕ) → (x ≡ i → ⊥) → from_one (λ x j. run_operand (clauses_of f) (put o v) x j) x 0 ≡ from_one (λ x j. run_operand (clauses_of f) t x j) x 0
       agree zero q = refl
-      agree (suc x) q = put-others v (clauses_of f) o x q
+      agree (suc x) q = put_others v (clauses_of f) o x q
 
   replaced_same : (k p : ℕ) {i j : ℕ} {u : Code} (v : Code) {ks : List ℕ} {t : Codes} → arguments_of f.source k p ≡ some ks → (o : Operand j u i ks t) → run (clauses_of f) 0 v ≡ run (clauses_of f) 0 u
       → run (clauses_of f) 0 (node k p (put o v)) ≡ run (clauses_of f) 0 (node k p t)
@@ -167,7 +167,7 @@ module _ (file : List ℕ) (f : Translation) (accepted : translation_of file ≡
 
   -- A row of a production has the kinds of its arguments.
   row_typed : (k p : ℕ) {kind : ℕ} {ks : List ℕ} {t : Codes} → arguments_of f.source k p ≡ some ks → Typed f.source [] (node k p t) kind → TypedAll f.source [] t ks × (kind ≡ k)
-  row_typed k p e (typed-node d h) = (rw (some_inj (sym d ∙ e)) at h, refl)
+  row_typed k p e (typed_node d h) = (rw (some_inj (sym d ∙ e)) at h, refl)
 
   -- A tree with an operand replaced by an earlier one whose run is the same, or which is dropped, is such a tree.
   swap_operand : (m k p : ℕ) {i j kind : ℕ} {u : Code} (v : Code) {ks : List ℕ} {t : Codes} → arguments_of f.source k p ≡ some ks → (o : Operand j u i ks t) → Typed f.source [] (node k p t) kind
@@ -179,9 +179,9 @@ module _ (file : List ℕ) (f : Translation) (accepted : translation_of file ≡
       let x = put_within v o d w in
       record {
         new = node k p (put o v);
-        typed = rw is (typed-node e (put_typed v o hs g));
+        typed = rw is (typed_node e (put_typed v o hs g));
         within = omega arith;
-        sooner = by-operands (put_earlier v o q);
+        sooner = by_operands (put_earlier v o q);
         same = same;
       }
 
@@ -210,8 +210,8 @@ dropped_are_first translation root target limit room bytes names e s n k p i j k
     f = s.through
 
     -- The tree that was found, with the operand replaced, would come before it.
-    none-sooner : Readied translation root target limit f → search_of f limit root target ≡ some bytes → Gives f limit root target s.plan → write tree s.plan ≡ bytes → Earlier v u → ⊥
-    none-sooner r found gives is q =
+    none_sooner : Readied translation root target limit f → search_of f limit root target ≡ some bytes → Gives f limit root target s.plan → write tree s.plan ≡ bytes → Earlier v u → ⊥
+    none_sooner r found gives is q =
         let base : (kind : ℕ) → Typed f.source [] (node k p t) kind → levels (node k p t) ≤ suc n → Swapped f.source (clauses_of f) (suc n) kind (node k p t) =
         λ kind g d. swap_operand translation f s.opened r.zero_only n k p v args o g (omega arith) h w q (dropped_same translation f s.opened r.zero_only k p v args o unused) in
         let x = swap translation f s.opened r.zero_only b root gives.legal gives.within base in
@@ -222,7 +222,7 @@ dropped_are_first translation root target limit room bytes names e s n k p i j k
     decide : Readied translation root target limit f → search_of f limit root target ≡ some bytes → Gives f limit root target s.plan → write tree s.plan ≡ bytes
         → before (write tree v) (write tree u) ≡ true → Ordered v u → ⊥
     decide r found gives is sooner (equal d) = one_way (write tree v) (write tree u) sooner (ap (λ (x : Code). before (write tree u) (write tree x)) d ∙ (ap (λ (x : Code). before (write tree x) (write tree u)) (sym d) ∙ sooner))
-    decide r found gives is sooner (first q) = none-sooner r found gives is q
+    decide r found gives is sooner (first q) = none_sooner r found gives is q
     decide r found gives is sooner (second q) = one_way (write tree v) (write tree u) sooner (earlier_before q)
 
     go : before (write tree v) (write tree u) ≡ true → ⊥

@@ -15,7 +15,7 @@ use Rattle.format_fields.proofs.Codec.{refused_value, step_value, value_inj}
 use Rattle.format_language.specs.Language.{Language, arguments_of}
 use Rattle.format_language.specs.LanguageFile.{language_of}
 use Rattle.tree_reader.specs.Code.{Code, node, token, argument, Codes, nil, cons}
-use Rattle.tree_reader.specs.Typing.{kind_at, Typed, TypedAll, typed-node, typed-token, typed-argument, typed-nil, typed-cons}
+use Rattle.tree_reader.specs.Typing.{kind_at, Typed, TypedAll, typed_node, typed_token, typed_argument, typed_nil, typed_cons}
 use Rattle.tree_reader.specs.Syntax.{read, write, tree, done}
 use Rattle.tree_reader.specs.Operations.{tree_levels, whole_tree, tree_of}
 use Rattle.tree_reader.proofs.Sound.{read_done}
@@ -28,7 +28,7 @@ use Rattle.tree_block.specs.Blocks.{Block, block_of, bytes_of, argument_after, a
 use Rattle.tree_block.specs.Operations.{found}
 use Rattle.tree_block.proofs.Legal.{blocks_are_legal}
 use Rattle.tree_block.proofs.Reaching.{reached_inj, not_reached, nowhere_reached}
-use Rattle.tree_mask.specs.Agreement.{Agree, both-hidden, same-token, same_production, AgreeAll, agree-nil, agree-cons}
+use Rattle.tree_mask.specs.Agreement.{Agree, both_hidden, same_token, same_production, AgreeAll, agree_nil, agree_cons}
 use Rattle.tree_mask.proofs.Laws.{hidden_stays_hidden}
 use Rattle.tree_edit.specs.Plans.{replace_after, replace_at}
 use Rattle.tree_edit.specs.Operations.{new_block, new_plan, edit_plan}
@@ -41,13 +41,13 @@ use Rattle.laws_bytes.proofs.Opened.{no_use}
 module _ (l : Language) (c : Card) where
   mutual
     agrees : {u : Code} {k : ℕ} → Typed l [] u k → Agree l c k u u
-    agrees (typed-node e h) = same_production e (agreesAll h)
-    agrees (typed-token e h) = same-token
-    agrees (typed-argument {i = i} {j = j} e) = no_use i j e
+    agrees (typed_node e h) = same_production e (agrees_all h)
+    agrees (typed_token e h) = same_token
+    agrees (typed_argument {i = i} {j = j} e) = no_use i j e
 
-    agreesAll : {t : Codes} {ks : List ℕ} → TypedAll l [] t ks → AgreeAll l c ks t t
-    agreesAll typed-nil = agree-nil
-    agreesAll (typed-cons h hs) = agree-cons (agrees h) (agreesAll hs)
+    agrees_all : {t : Codes} {ks : List ℕ} → TypedAll l [] t ks → AgreeAll l c ks t t
+    agrees_all typed_nil = agree_nil
+    agrees_all (typed_cons h hs) = agree_cons (agrees h) (agrees_all hs)
 
   -- The operands after n others of rows that agree: of one kind, and they agree; with both changed alike the rows still do.
   record After (ks : List ℕ) (s t : Codes) (n : ℕ) (a b : Block) : Type 0 where
@@ -58,14 +58,14 @@ module _ (l : Language) (c : Card) where
   after : {ks : List ℕ} {s t : Codes} → AgreeAll l c ks s t → (n x y : ℕ) (a b : Block) → argument_after ks s n x ≡ some a → argument_after ks t n y ≡ some b
       → After ks s t n a b
   unfolding argument_after replace_after
-  after agree-nil n x y a b e d = none_some e
-  after (agree-cons {k = k} {a = p} {b = q} g gs) zero x y a b e d =
+  after agree_nil n x y a b e d = none_some e
+  after (agree_cons {k = k} {a = p} {b = q} g gs) zero x y a b e d =
       let ea : block_of x k p ≡ a = some_inj e in
       let eb : block_of y k q ≡ b = some_inj d in
-      rw (← ea, ← eb) (record { kinds = refl; agree = g; changed = λ h w. agree-cons w gs })
-  after (agree-cons g gs) (suc n) x y a b e d =
+      rw (← ea, ← eb) (record { kinds = refl; agree = g; changed = λ h w. agree_cons w gs })
+  after (agree_cons g gs) (suc n) x y a b e d =
       let r = after gs n _ _ a b e d in
-      record { kinds = r.kinds; agree = r.agree; changed = λ h w. agree-cons g (r.changed h w) }
+      record { kinds = r.kinds; agree = r.agree; changed = λ h w. agree_cons g (r.changed h w) }
 
   -- The blocks that a path number leads to, of blocks that agree and are seen.
   record Entered (i k : ℕ) (s t : Code) (a b : Block) : Type 0 where
@@ -77,8 +77,8 @@ module _ (l : Language) (c : Card) where
   entered : {k : ℕ} {s t : Code} → Agree l c k s t → (i p q : ℕ) (a b : Block) → sees c k ≡ true → argument_of l p s i ≡ some a → argument_of l q t i ≡ some b
       → Entered i k s t a b
   unfolding argument_of replace_at
-  entered (both-hidden h) i p q a b seen e d = false_true (sym h ∙ seen)
-  entered same-token i p q a b seen e d = none_some e
+  entered (both_hidden h) i p q a b seen e d = false_true (sym h ∙ seen)
+  entered same_token i p q a b seen e d = none_some e
   entered (same_production h gs) zero p q a b seen e d = none_some e
   entered (same_production {k = k} {p = name} {ks = ks} {s = s} {t = t} h gs) (suc n) p q a b seen e d =
       let x : argument_after ks s n (p + 1) ≡ some a = rw h at e in
@@ -89,10 +89,10 @@ module _ (l : Language) (c : Card) where
   -- A path that reaches a block is seen at each step, and each number leads on.
   last_seen : (b : Bool) (x z : Block) → cond b (reached z) hidden ≡ reached x → (b ≡ true) × (z ≡ x)
   last_seen true x z e = (refl, reached_inj e)
-  last_seen false x z e = hidden-reached e
+  last_seen false x z e = hidden_reached e
     where
-      hidden-reached : {A : Type 0} → hidden ≡ reached x → A
-      hidden-reached e = not_reached hidden refl e
+      hidden_reached : {A : Type 0} → hidden ≡ reached x → A
+      hidden_reached e = not_reached hidden refl e
 
   opened : (path : List ℕ) (b : Bool) (o : Option Block) (x : Block)
       → elim b [ false ↦ hidden | true ↦ elim o [ none ↦ nowhere | some d ↦ block_at (sees c) l path d ] ] ≡ reached x
@@ -216,14 +216,14 @@ edits_stay_inside language root bytes index path card block c t narrow blocks ec
       there = z.there;
       seen = ap (λ (b : Block). sees c b.kind) (sym same) ∙ seen;
       front = fronts;
-      back = back-of z.old.start (take z.old.start bytes) block (drop (z.old.start + length (bytes_of z.old)) bytes) (write tree t) z.around front_long;
+      back = back_of z.old.start (take z.old.start bytes) block (drop (z.old.start + length (bytes_of z.old)) bytes) (write tree t) z.around front_long;
     }
   where
     -- The front and the back of bytes in three parts.
     front_of : (n : ℕ) (a b whole : List ℕ) → whole ≡ a ++ b → length a ≡ n → take n whole ≡ a
     front_of n a b whole w h = ap (take n) w ∙ (ap (λ (m : ℕ). take m (a ++ b)) (sym h) ∙ take-append_seam a b)
 
-    back-of : (n : ℕ) (a b d whole : List ℕ) → whole ≡ a ++ (b ++ d) → length a ≡ n → drop (n + length b) whole ≡ d
-    back-of n a b d whole w h =
+    back_of : (n : ℕ) (a b d whole : List ℕ) → whole ≡ a ++ (b ++ d) → length a ≡ n → drop (n + length b) whole ≡ d
+    back_of n a b d whole w h =
         let long : n + length b ≡ length (a ++ b) = omega (arith, length-append a b, h) in
         ap (drop (n + length b)) (w ∙ sym (append_assoc a b d)) ∙ (ap (λ (m : ℕ). drop m ((a ++ b) ++ d)) long ∙ drop-append_seam (a ++ b) d)

@@ -18,7 +18,7 @@ use Rattle.format_language.specs.Language.{class, production, Range, range_of, i
 use Rattle.format_language.specs.Inner.Entries.{entry_at, class_range}
 use Rattle.format_language.proofs.Lookup.{range_mem}
 use Rattle.tree_reader.specs.Code.{Code, Codes}
-use Rattle.tree_reader.specs.Typing.{kind_at, Typed, TypedAll, typed-node, typed-token, typed-argument, typed-nil, typed-cons}
+use Rattle.tree_reader.specs.Typing.{kind_at, Typed, TypedAll, typed_node, typed_token, typed_argument, typed_nil, typed_cons}
 use Rattle.tree_reader.specs.Syntax.{write, write_all, tree}
 use Rattle.tree_reader.proofs.Members.{in_below}
 use Rattle.tree_reader.proofs.RoundTrip.{Apart}
@@ -89,19 +89,19 @@ module _ (file : List ℕ) (f : Translation) (accepted : translation_of file ≡
       unfolding write
 
       -- The trees of its source are files of bytes.
-      tree-bytes-all : {t : Code} {k : ℕ} → Typed f.source [] t k → Bytes (write tree t)
-      tree-bytes-all (typed-node {k = k} {p = p} {ks = ks} e h) = (source_names file f accepted narrow k p ks e, row-bytes h)
-      tree-bytes-all (typed-token {v = v} {k = k} {c = c} e h) =
+      tree_bytes_all : {t : Code} {k : ℕ} → Typed f.source [] t k → Bytes (write tree t)
+      tree_bytes_all (typed_node {k = k} {p = p} {ks = ks} e h) = (source_names file f accepted narrow k p ks e, row_bytes h)
+      tree_bytes_all (typed_token {v = v} {k = k} {c = c} e h) =
           let d = value_below c v h in
           let b = byte_values narrow k c e in
           let high : v / 256 < 256 = omega (arith, d, b) in
           let low : v % 256 < 256 = omega arith in
           (high, (low, tt))
-      tree-bytes-all (typed-argument {i = i} {j = j} e) = no_use i j e
+      tree_bytes_all (typed_argument {i = i} {j = j} e) = no_use i j e
 
-      row-bytes : {t : Codes} {ks : List ℕ} → TypedAll f.source [] t ks → Bytes (write_all tree t)
-      row-bytes typed-nil = tt
-      row-bytes (typed-cons {a = a} {t = t} h hs) = each_append (λ x. x < 256) (write tree a) (write_all tree t) (tree-bytes-all h) (row-bytes hs)
+      row_bytes : {t : Codes} {ks : List ℕ} → TypedAll f.source [] t ks → Bytes (write_all tree t)
+      row_bytes typed_nil = tt
+      row_bytes (typed_cons {a = a} {t = t} h hs) = each_append (λ x. x < 256) (write tree a) (write_all tree t) (tree_bytes_all h) (row_bytes hs)
 
-    pub tree-narrow : (t : Code) (k : ℕ) → Typed f.source [] t k → OfBytes (write tree t)
-    tree-narrow t k h = bytes_at (write tree t) (tree-bytes-all h)
+    pub tree_narrow : (t : Code) (k : ℕ) → Typed f.source [] t k → OfBytes (write tree t)
+    tree_narrow t k h = bytes_at (write tree t) (tree_bytes_all h)

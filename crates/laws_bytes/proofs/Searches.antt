@@ -31,7 +31,7 @@ use Rattle.search_sources.specs.Inner.Giving.{Gives}
 use Rattle.search_sources.proofs.Theorems.{found_gives, nothing_before, none_gives}
 use Rattle.laws_bytes.specs.Files.{OfBytes}
 use Rattle.laws_bytes.specs.Searches.{Source, FoundRuns, NothingEarlier, NoneExactly}
-use Rattle.laws_bytes.proofs.Opened.{has_zero, source_apart, tree-narrow}
+use Rattle.laws_bytes.proofs.Opened.{has_zero, source_apart, tree_narrow}
 use Rattle.laws_bytes.proofs.Texts.{fitted_value, fits, written_back}
 
 -- The number of a result.
@@ -140,11 +140,11 @@ nothing_earlier translation root target limit room bytes names e other narrow s 
 module _ (translation : List ℕ) (root : ℕ) (target : List ℕ) (limit room : ℕ) (f : Translation) (e : ready translation root target limit ≡ value f) where
   not_found : (o : Option (List ℕ)) → (found o >>= λ bytes. fitted room bytes) ≡ refused NoSource → o ≡ none
   not_found none h = refl
-  not_found (some s) h = absurd (fitted-not (ltb room (length s)) s h)
+  not_found (some s) h = absurd (fitted_not (ltb room (length s)) s h)
     where
-      fitted-not : (b : Bool) (s : List ℕ) → refuse_if b OutputTooShort (value s) ≡ refused NoSource → ⊥
-      fitted-not true s h = let z : ◌≡◌ {A = ℕ} 17 23 = ap numbered h in omega arith
-      fitted-not false s h = refused_value (sym h)
+      fitted_not : (b : Bool) (s : List ℕ) → refuse_if b OutputTooShort (value s) ≡ refused NoSource → ⊥
+      fitted_not true s h = let z : ◌≡◌ {A = ℕ} 17 23 = ap numbered h in omega arith
+      fitted_not false s h = refused_value (sym h)
 
   refused_none : search_bytes translation root target limit room ≡ refused NoSource → search_of f limit root target ≡ none
   unfolding search_bytes found_in
@@ -168,4 +168,4 @@ none_exactly translation root target limit room f names e =
     go none h r never = h
     go (some bytes) h r never =
         let (t, g, is) = found_gives f limit root target bytes h in
-        absurd (never (write tree t) (tree-narrow translation f r.opened names t root g.legal) (gives_source translation root target limit room f r t g))
+        absurd (never (write tree t) (tree_narrow translation f r.opened names t root g.legal) (gives_source translation root target limit room f r t g))

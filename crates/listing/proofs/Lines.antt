@@ -88,14 +88,14 @@ module _ (tag : ℕ) (c : List ℕ) where
     nothing : [] ≡ field_line tag c → Puts (field_line tag c) o o at at
     nothing e = subst (λ (l : List ℕ). Puts l o o at at) e (puts_nothing o at room)
 
-    pub puts-other : (tag ≡ 0x23 → ⊥) → (tag ≡ 0x29 → ⊥) → Puts (field_line tag c) o o at at
-    puts-other h k = nothing (no_clause h k)
+    pub puts_other : (tag ≡ 0x23 → ⊥) → (tag ≡ 0x29 → ⊥) → Puts (field_line tag c) o o at at
+    puts_other h k = nothing (no_clause h k)
 
-    pub puts-short : tag ≡ 0x23 → length c < 2 → Puts (field_line tag c) o o at at
-    puts-short h k = nothing (short_clause h k)
+    pub puts_short : tag ≡ 0x23 → length c < 2 → Puts (field_line tag c) o o at at
+    puts_short h k = nothing (short_clause h k)
 
-    pub puts-short-numbered : tag ≡ 0x29 → length c < 3 → Puts (field_line tag c) o o at at
-    puts-short-numbered h k = nothing (short_numbered h k)
+    pub puts_short_numbered : tag ≡ 0x29 → length c < 3 → Puts (field_line tag c) o o at at
+    puts_short_numbered h k = nothing (short_numbered h k)
 
   pub puts_whole : tag ≡ 0x23 → 2 ≤ length c → (o o' : List ℕ) (at r : ℕ) → Puts (contents_line c) o o' at r → Puts (field_line tag c) o o' at r
   puts_whole h k o o' at r x = subst (λ (l : List ℕ). Puts l o o' at r) (whole_clause h k) x

@@ -39,7 +39,7 @@ use Rattle.format_fields.specs.Inner.Writing.{Stores}
 use Rattle.reduce_merge.specs.Inner.Parts.{lies_within}
 use Rattle.reduce_operators.specs.Inner.Values.{Gives, translation_bytes}
 use Rattle.reduce_operators.proofs.Proper.{Sound, GoodTranslation, formed_sound, good_back}
-use Rattle.reduce_operators.proofs.JoinSound.{body_rises, join-whole, sound-join}
+use Rattle.reduce_operators.proofs.JoinSound.{body_rises, join_whole, sound_join}
 use Rattle.reduce_operators.proofs.Encoded.{language_within}
 use Rattle.reduce_operators.specs.Inner.EncodedParts.{EncodedParts}
 use Rattle.reduce_operators.specs.Inner.Assembled.{assembled}
@@ -102,7 +102,7 @@ module _ (f g : Translation) (hf : Held f) (hg : Held g) (fits : join_fits f g �
   whole h = record {
     source = mem_all entry_whole g.source second_good.sound.source.whole;
     target = mem_all entry_whole f.target first_good.sound.target.whole;
-    body = mem_all item_whole (joined f g).body (join-whole f g first_good.sound second_good.sound fits low_first low_second);
+    body = mem_all item_whole (joined f g).body (join_whole f g first_good.sound second_good.sound fits low_first low_second);
     rises = rises;
     source_apart = none_clashes g.source g.source second_good.sound.source.apart;
     target_apart = none_clashes f.target f.target first_good.sound.target.apart;
@@ -117,7 +117,7 @@ module _ (f g : Translation) (hf : Held f) (hg : Held g) (fits : join_fits f g �
   checked_sound h e =
       let a = accepts (encode_translation (joined f g)) refl e in
       (formed_sound (joined f g) a.translation second_good.sound.source first_good.sound.target
-      (join-whole f g first_good.sound second_good.sound fits low_first low_second) (body_rises f g first_good.sound second_good.sound fits low_first low_second)
+      (join_whole f g first_good.sound second_good.sound fits low_first low_second) (body_rises f g first_good.sound second_good.sound fits low_first low_second)
       (sym (translation_back (joined f g) (whole h)) ∙ a.is)).0
 
   -- What the check refuses exceeds a limit.
@@ -131,7 +131,7 @@ module _ (f g : Translation) (hf : Held f) (hg : Held g) (fits : join_fits f g �
       let a = or_false (language_exceeds g.source) _ d in
       let b = or_false (language_exceeds f.target) _ a.1 in
       let c = or_false (ltb translation_limit (length (encode_translation (joined f g)))) (any (code_is_deep (joined f g)) (joined f g).body) b.1 in
-      let s = sound-join f g first_good.sound second_good.sound fits low_first low_second (any_false (code_is_deep (joined f g)) (joined f g).body c.1) in
+      let s = sound_join f g first_good.sound second_good.sound fits low_first low_second (any_false (code_is_deep (joined f g)) (joined f g).body c.1) in
       let v = good_back (joined f g) (record { sound = s; source_short = second_good.source_short; target_short = first_good.target_short; short = h }) in
       let z : Accepted 0 ≡ Refused w = sym (ap checked v) ∙ e in
       let y : ◌≡◌ {A = ℕ} 0 1 = cc in
@@ -144,8 +144,8 @@ module _ (f g : Translation) (hf : Held f) (hg : Held g) (fits : join_fits f g �
     unfolding joined
     made = rw (es, et, eb) (assembled_is (joined f g))
 
-    pub finish-refused : {w : Reason} → r ≡ Refused w → Gives (translation_bytes (value (joined f g))) o o' (Refused w)
-    finish-refused {w} e =
+    pub finish_refused : {w : Reason} → r ≡ Refused w → Gives (translation_bytes (value (joined f g))) o o' (Refused w)
+    finish_refused {w} e =
         by_test (ltb 4096 (length (assembled s t b)))
         (λ d.
         let over : 4096 < length (encode_translation (joined f g)) = omega (arith, ap length made, ltb-true 4096 (length (assembled s t b)) d) in
@@ -163,9 +163,9 @@ module _ (f g : Translation) (hf : Held f) (hg : Held g) (fits : join_fits f g �
       stands : Whole (encode_translation (joined f g)) o' n
       stands = subst (λ (v : List ℕ). Whole v o' n) made (given_whole _ o o' r given n e)
 
-      pub finish-checked : (x : Outcome) → x ≡ checked_length (take n o') (check_translation (take n o')) → Gives (translation_bytes (value (joined f g))) o o' x
+      pub finish_checked : (x : Outcome) → x ≡ checked_length (take n o') (check_translation (take n o')) → Gives (translation_bytes (value (joined f g))) o o' x
       unfolding joined
-      finish-checked x ex = go (check_translation (take n o')) refl
+      finish_checked x ex = go (check_translation (take n o')) refl
         where
           go : (c : Outcome) → check_translation (take n o') ≡ c → Gives (translation_bytes (value (joined f g))) o o' x
           go (Accepted m) k =
@@ -280,32 +280,32 @@ module _ (s t x u v y : List ℕ) (f g : Translation) (p : EncodedParts s t x f)
       gives_refused (translation_bytes (translation_join f g)) o o NumberUnfit (rw z refl) refl
 
   module _ (b : Bool) (eb : Tests b) (tb : b ≡ true) where
-    both-low : (numbers_low f ≡ true) × (numbers_low g ≡ true)
-    both-low = and_both (numbers_low f) (numbers_low g) (sym (low_is b eb) ∙ tb)
+    both_low : (numbers_low f ≡ true) × (numbers_low g ≡ true)
+    both_low = and_both (numbers_low f) (numbers_low g) (sym (low_is b eb) ∙ tb)
 
     first_low : numbers_low f ≡ true
-    first_low = both-low.0
+    first_low = both_low.0
 
     second_low : numbers_low g ≡ true
-    second_low = both-low.1
+    second_low = both_low.1
 
     module _ (d : Bool) (e : d ≡ lies_within v s) where
-      fits-is : d ≡ join_fits f g
+      fits_is : d ≡ join_fits f g
       unfolding join_fits
-      fits-is =
+      fits_is =
           e ∙ (ap (λ (a : List ℕ). lies_within a s) q.target
           ∙ (ap (lies_within (encode_language g.target)) p.source
           ∙ language_within g.target f.source (spelt_good u v y g q).sound.target.whole (spelt_good s t x f p).sound.source.whole))
 
-      pub parts-unfit : d ≡ false → (o : List ℕ) → Gives (translation_bytes (translation_join f g)) o o (Refused JoinUnfit)
+      pub parts_unfit : d ≡ false → (o : List ℕ) → Gives (translation_bytes (translation_join f g)) o o (Refused JoinUnfit)
       unfolding translation_join
-      parts-unfit h o =
-          let z : join_fits f g ≡ false = sym fits-is ∙ h in
+      parts_unfit h o =
+          let z : join_fits f g ≡ false = sym fits_is ∙ h in
           gives_refused (translation_bytes (translation_join f g)) o o JoinUnfit (rw (first_low, second_low, z) refl) refl
 
-      pub parts-fitted : d ≡ true → Fitted s t x u y f g
-      parts-fitted h = record { first = p; second = (v, q); first_low = first_low; second_low = second_low; fits = sym fits-is ∙ h }
+      pub parts_fitted : d ≡ true → Fitted s t x u y f g
+      parts_fitted h = record { first = p; second = (v, q); first_low = first_low; second_low = second_low; fits = sym fits_is ∙ h }
 
-      pub parts-given : d ≡ true → (o o' : List ℕ) (r : Outcome) → Gives (translation_bytes (value (joined f g))) o o' r → Gives (translation_bytes (translation_join f g)) o o' r
+      pub parts_given : d ≡ true → (o o' : List ℕ) (r : Outcome) → Gives (translation_bytes (value (joined f g))) o o' r → Gives (translation_bytes (translation_join f g)) o o' r
       unfolding translation_join
-      parts-given h o o' r w = let z : join_fits f g ≡ true = sym fits-is ∙ h in rw (first_low, second_low, z) w
+      parts_given h o o' r w = let z : join_fits f g ≡ true = sym fits_is ∙ h in rw (first_low, second_low, z) w

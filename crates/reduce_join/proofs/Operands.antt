@@ -96,15 +96,15 @@ module _ (t u b u' : List ℕ) (limit : ℕ) (f g : Translation) (z : Joining t 
 
   -- An item that the walk comes by is one of the second's body.
   module _ (p : ℕ) (w : Reached b p) (here : p < length b) where
-    item-stands : Mem (item_at b p) g.body
-    item-stands =
+    item_stands : Mem (item_at b p) g.body
+    item_stands =
         let x : Mem p (p ∷ places_from b (field_end b p)) = inl refl in
         let y : Mem p (places_from b p) = rw (places_next b p here) x in
         let v : Mem p (places b) = rw w.walk (mem_append p w.before (places_from b p) (inr y)) in
         rw (← (holds_items b g.body z.items).items) (mem_map (item_at b) p (places b) v)
 
     pub number_low : number_of (item_at b p) < 16
-    number_low = low_is g z.second_low (item_at b p) item-stands
+    number_low = low_is g z.second_low (item_at b p) item_stands
 
     module _ (whole : item_whole b p ≡ true) (e : ℕ) (ee : e ≡ field_end b p) (i : ℕ) (ei : i ≡ number_of (item_at b p)) where
       -- The number of a clause.
@@ -113,11 +113,11 @@ module _ (t u b u' : List ℕ) (limit : ℕ) (f g : Translation) (z : Joining t 
       number_at_lem c = sym (ei ∙ ap number_of c.item)
 
       clause_stands : (c : ClauseAt b p) → Mem (clause (get_or b (p + 3) 0) (get_or b (p + 4) 0) c.number (slice (p + head_length c.number) (field_end b p) b)) g.body
-      clause_stands c = rw c.item at item-stands
+      clause_stands c = rw c.item at item_stands
 
       -- kind_reached
-      clause-goes : (c : ClauseAt b p) → (k : ℕ) × (mapping_of g.body (get_or b (p + 3) 0) c.number ≡ some k) × (k < 32)
-      clause-goes c =
+      clause_goes : (c : ClauseAt b p) → (k : ℕ) × (mapping_of g.body (get_or b (p + 3) 0) c.number ≡ some k) × (k < 32)
+      clause_goes c =
           let s = second_sound in
           let k = (s.fits.clauses_only _ _ _ _ (clause_stands c)).1 in (
             k.0,
@@ -125,14 +125,14 @@ module _ (t u b u' : List ℕ) (limit : ℕ) (f g : Translation) (z : Joining t 
             proper_below g.target s.target k.0 (s.fits.maps_only _ _ k.0 k.1).1,
           )
 
-      pub reach-asks : ReachAsks b u' p e i g
-      reach-asks = record {
+      pub reach_asks : ReachAsks b u' p e i g
+      reach_asks = record {
         whole = whole;
         end = ee;
         number = ei;
         low = rw ei number_low;
         uses = z.second_uses;
-        goes = λ q. let c = clause_at_lem b p q (item_facts b p whole) in rw (← number_at_lem c) (clause-goes c);
+        goes = λ q. let c = clause_at_lem b p q (item_facts b p whole) in rw (← number_at_lem c) (clause_goes c);
       }
 
       -- join_number
@@ -151,23 +151,23 @@ module _ (t u b u' : List ℕ) (limit : ℕ) (f g : Translation) (z : Joining t 
             rw (l, x, clause_code g s.rises _ _ _ _ a.0 m a.1)
             (keeps (read_keeps (target_larger f g first_sound s z.fits) _ 16 _ _) a.1)
 
-        uses-low : (r n : ℕ) (x y k : ℕ) → kind_at (uses_of g r n) x y ≡ some k → y < 16
+        uses_low : (r n : ℕ) (x y k : ℕ) → kind_at (uses_of g r n) x y ≡ some k → y < 16
         unfolding uses_of number_of
-        uses-low r n zero y k e = none_some e
-        uses-low r n (suc x) y k e =
+        uses_low r n zero y k e = none_some e
+        uses_low r n (suc x) y k e =
             let q = use_kind (mapping_of g.body) (Option.get_or (arguments_of g.source r n) []) x y k e in
             low_is g z.second_low (mapping q.0 y k) (mapping_mem g.body q.0 y k q.2)
 
-        first-uses : (k y : ℕ) → is_some (mapping_of f.body k y) ≡ true → y < 16
-        first-uses k y h = let a = z.below k y h in let c = z.few in omega arith
+        first_uses : (k y : ℕ) → is_some (mapping_of f.body k y) ≡ true → y < 16
+        first_uses k y h = let a = z.below k y h in let c = z.few in omega arith
 
-        code-asks : (c : ClauseAt b p) → kind ≡ mapped g.body (get_or b (p + 3) 0) c.number → is_some (mapping_of f.body kind j) ≡ true
+        code_asks : (c : ClauseAt b p) → kind ≡ mapped g.body (get_or b (p + 3) 0) c.number → is_some (mapping_of f.body kind j) ≡ true
             → TermAsks Syntaxes.Code t (between b (p + head_length c.number) e) (replicate 2 0) 16 kind j f (uses_of g (get_or b (p + 3) 0) (get_or b (p + 4) 0))
             (clauses_of g (get_or b (p + 3) 0) (get_or b (p + 4) 0) c.number)
-        code-asks c l has =
+        code_asks c l has =
             let d = read_done Meant.code f.source _ 16 kind (between b (p + head_length c.number) e) _ [] (code_read c l) in
             record {
-              table = record { ready = z.table; plain = λ q. no_tree q; uses = uses-low _ _; numbers = λ q k y h. first-uses k y h };
+              table = record { ready = z.table; plain = λ q. no_tree q; uses = uses_low _ _; numbers = λ q k y h. first_uses k y h };
               kept = nothing_kept 2 _ _ _;
               term = record {
                 typed = d.0;
@@ -191,11 +191,11 @@ module _ (t u b u' : List ℕ) (limit : ℕ) (f g : Translation) (z : Joining t 
               second_low = rw q l;
               first_low = let a = z.few in omega arith;
               given = uses_of g (get_or b (p + 3) 0) (get_or b (p + 4) 0);
-              asks = code-asks c k has;
+              asks = code_asks c k has;
             })
 
-        pub number-asks : NumberAsks t u b p e kind i j f g
-        number-asks =
+        pub number_asks : NumberAsks t u b p e kind i j f g
+        number_asks =
             let l : i < 16 = rw ei number_low in
             record {
               whole = whole;

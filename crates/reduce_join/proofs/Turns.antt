@@ -73,15 +73,15 @@ module _ (t b : List ℕ) (p e kind i j x : ℕ) (ex : x ≡ head_length i) (f g
   run_stores o o' n r h = h f a.given _ run_asks
 
 module _ (t b : List ℕ) (p e kind i j : ℕ) (f g : Translation) (a : ClauseAsks t b p e kind i j f g) (number : ℕ) (en : number ≡ 16 * i + j) (hl : ℕ) (el : hl ≡ head_length number) where
-  abbrev joinedCode : List ℕ
-  joinedCode = write code (transform f j (clauses_of g (get_or b (p + 3) 0) (get_or b (p + 4) 0) i))
+  abbrev joined_code : List ℕ
+  joined_code = write code (transform f j (clauses_of g (get_or b (p + 3) 0) (get_or b (p + 4) 0) i))
 
-  field_is : (size : ℕ) → size + 3 ≡ hl + length joinedCode → paired_field f g b p j ≡ clause_head (get_or b (p + 3) 0) (get_or b (p + 4) 0) number size ++ joinedCode
+  field_is : (size : ℕ) → size + 3 ≡ hl + length joined_code → paired_field f g b p j ≡ clause_head (get_or b (p + 3) 0) (get_or b (p + 4) 0) number size ++ joined_code
   unfolding paired_field transform
   field_is size e =
       ap (λ (x : Item). encode_field (item_field (paired_item f g x j))) a.item
-      ∙ (ap (λ (x : ℕ). encode_field (item_field (clause (get_or b (p + 3) 0) (get_or b (p + 4) 0) x joinedCode))) (sym en)
-      ∙ clause_field_lem (get_or b (p + 3) 0) (get_or b (p + 4) 0) number joinedCode size (e ∙ ap (λ (x : ℕ). x + length joinedCode) el))
+      ∙ (ap (λ (x : ℕ). encode_field (item_field (clause (get_or b (p + 3) 0) (get_or b (p + 4) 0) x joined_code))) (sym en)
+      ∙ clause_field_lem (get_or b (p + 3) 0) (get_or b (p + 4) 0) number joined_code size (e ∙ ap (λ (x : ℕ). x + length joined_code) el))
 
   hl_five : 5 ≤ hl
   unfolding head_length
@@ -91,37 +91,37 @@ module _ (t b : List ℕ) (p e kind i j : ℕ) (f g : Translation) (a : ClauseAs
       go zero = omega arith
       go (suc x) = let z : eqb (suc x) 0 ≡ false = borrow.Author.Tests.ne_eqb (suc x) 0 (λ h. omega arith) in rw z (omega arith)
 
-  field_long : length (paired_field f g b p j) ≡ hl + length joinedCode
+  field_long : length (paired_field f g b p j) ≡ hl + length joined_code
   field_long =
-      let size = hl + length joinedCode - 3 in
+      let size = hl + length joined_code - 3 in
       let h = hl_five in
-      let s : size + 3 ≡ hl + length joinedCode = omega arith in
-      omega (arith, ap length (field_is size s), length-append (clause_head (get_or b (p + 3) 0) (get_or b (p + 4) 0) number size) joinedCode, head_length_lem (get_or b (p + 3) 0) (get_or b (p + 4) 0) number size, el)
+      let s : size + 3 ≡ hl + length joined_code = omega arith in
+      omega (arith, ap length (field_is size s), length-append (clause_head (get_or b (p + 3) 0) (get_or b (p + 4) 0) number size) joined_code, head_length_lem (get_or b (p + 3) 0) (get_or b (p + 4) 0) number size, el)
 
   module _ (o : List ℕ) (n : ℕ) where
     pub clause_short : length o < n + hl → Stores (paired_field f g b p j) o o n Full
     clause_short h = stored_full _ o o n (omega (arith, field_long))
 
-    module _ (o' : List ℕ) (x : Stored) (w : Stores joinedCode o o' (n + hl) x) where
-      pub clause-full : x ≡ Full → Stores (paired_field f g b p j) o o' n Full
-      clause-full h = stored_full _ o o' n (omega (arith, w.full h, field_long))
+    module _ (o' : List ℕ) (x : Stored) (w : Stores joined_code o o' (n + hl) x) where
+      pub clause_full : x ≡ Full → Stores (paired_field f g b p j) o o' n Full
+      clause_full h = stored_full _ o o' n (omega (arith, w.full h, field_long))
 
       pub clause_in : (m : ℕ) → x ≡ To m → (n + hl ≤ m) × (m ≤ length o) × (5 ≤ hl)
       clause_in m h = (omega (arith, (w.done m h).end), (w.done m h).fits, hl_five)
 
-      pub clause-to : n + hl ≤ length o → (m : ℕ) → x ≡ To m → (o'' : List ℕ) (y : Stored) (r k size : ℕ) → r ≡ get_or b (p + 3) 0 → k ≡ get_or b (p + 4) 0 → size ≡ m - n - 3
+      pub clause_to : n + hl ≤ length o → (m : ℕ) → x ≡ To m → (o'' : List ℕ) (y : Stored) (r k size : ℕ) → r ≡ get_or b (p + 3) 0 → k ≡ get_or b (p + 4) 0 → size ≡ m - n - 3
           → Stores (clause_head r k number size) o' o'' n y → Stores (paired_field f g b p j) o o'' n (To m)
-      clause-to room m h o'' y r k size er ek es v =
+      clause_to room m h o'' y r k size er ek es v =
           let d = w.done m h in
           let five = hl_five in
-          let s : size + 3 ≡ hl + length joinedCode = omega (arith, d.end, es) in
+          let s : size + 3 ≡ hl + length joined_code = omega (arith, d.end, es) in
           let hd = clause_head r k number size in
           let lh : length hd ≡ hl = head_length_lem r k number size ∙ sym el in
-          let lo : length o' ≡ length o = ap length d.bytes ∙ length_spliced o (n + hl) joinedCode (omega (arith, d.end, d.fits)) in
+          let lo : length o' ≡ length o = ap length d.bytes ∙ length_spliced o (n + hl) joined_code (omega (arith, d.end, d.fits)) in
           let q : o'' ≡ spliced o' n hd = stored_there hd o' o'' n y v (omega (arith, lh, lo)) in
           stored_to _ o o'' n m (omega (arith, d.end, field_long)) d.fits
           (q ∙ (ap (λ (z : List ℕ). spliced z n hd) d.bytes
-          ∙ (head_before o n hl room hd joinedCode lh ∙ ap (spliced o n) (rw (er, ek) (sym (field_is size s))))))
+          ∙ (head_before o n hl room hd joined_code lh ∙ ap (spliced o n) (rw (er, ek) (sym (field_is size s))))))
 
 -- The table, looked up.
 before_some : (x k : ℕ) → kind_before x ≡ some k → x ≡ k + 1
@@ -180,32 +180,32 @@ module _ (b u : List ℕ) (p e i : ℕ) (g : Translation) (a : ReachAsks b u p e
         let l = a.low in
         before_some x goes.0 (looked u g a.uses (get_or b (p + 3) 0) i (result_kind (item_facts b p a.whole)) (omega arith) x (ex ∙ ap (λ (y : ℕ). get_or u (256 * y + i) 0) er) ∙ goes.1)
 
-    pub reach-some : (1 ≤ x) × (x - 1 < 32)
-    reach-some = let q = target_is in let k = goes.2 in (omega arith, omega arith)
+    pub reach_some : (1 ≤ x) × (x - 1 < 32)
+    reach_some = let q = target_is in let k = goes.2 in (omega arith, omega arith)
 
-    clause-reaches : ItemFacts b p → reached g (item_at b p) ≡ goes.0
+    clause_reaches : ItemFacts b p → reached g (item_at b p) ≡ goes.0
     unfolding mapped number_of
-    clause-reaches (plain_mapping m) = false_true (sym (ec ∙ ap is_clause_tag (et ∙ m.tag)) ∙ h)
-    clause-reaches (plain_clause m) =
+    clause_reaches (plain_mapping m) = false_true (sym (ec ∙ ap is_clause_tag (et ∙ m.tag)) ∙ h)
+    clause_reaches (plain_clause m) =
         let z : i ≡ 0 = a.number ∙ ap number_of (clause_is b p m) in
         ap (reached g) (clause_is b p m) ∙ ap (λ (o : Option ℕ). Option.get_or o 0) (ap (mapping_of g.body (get_or b (p + 3) 0)) (sym z) ∙ goes.1)
-    clause-reaches (numbered_mapping_lem m) = false_true (sym (ec ∙ ap is_clause_tag (et ∙ m.tag)) ∙ h)
-    clause-reaches (numbered_clause_lem m) =
+    clause_reaches (numbered_mapping_lem m) = false_true (sym (ec ∙ ap is_clause_tag (et ∙ m.tag)) ∙ h)
+    clause_reaches (numbered_clause_lem m) =
         let z : i ≡ get_or b (p + 5) 0 = a.number ∙ ap number_of (numbered_clause_is b p m) in
         ap (reached g) (numbered_clause_is b p m) ∙ ap (λ (o : Option ℕ). Option.get_or o 0) (ap (mapping_of g.body (get_or b (p + 3) 0)) (sym z) ∙ goes.1)
 
-    pub reach-clause : x - 1 ≡ reached g (item_at b p)
-    reach-clause = let q = target_is in let y : x - 1 ≡ goes.0 = omega arith in y ∙ sym (clause-reaches (item_facts b p a.whole))
+    pub reach_clause : x - 1 ≡ reached g (item_at b p)
+    reach_clause = let q = target_is in let y : x - 1 ≡ goes.0 = omega arith in y ∙ sym (clause_reaches (item_facts b p a.whole))
 
   module _ (h : c ≡ false) where
     here : MappingAt b p
     here = mapping_at b p a.whole (ap is_clause_tag (sym et) ∙ (sym ec ∙ h)) (item_facts b p a.whole)
 
-    pub reach-end : 1 ≤ e
-    reach-end = let q = here.end in omega (arith, a.end)
+    pub reach_end : 1 ≤ e
+    reach_end = let q = here.end in omega (arith, a.end)
 
-    pub reach-mapping : (x : ℕ) → x ≡ get_or b (e - 1) 0 → (x < 32) × (x ≡ reached g (item_at b p))
-    reach-mapping x ex =
+    pub reach_mapping : (x : ℕ) → x ≡ get_or b (e - 1) 0 → (x < 32) × (x ≡ reached g (item_at b p))
+    reach_mapping x ex =
         let y : x ≡ here.target = ex ∙ (ap (λ (z : ℕ). get_or b (z - 1) 0) a.end ∙ here.last) in
         (rw y here.kind, y ∙ sym (ap (reached g) here.item))
 
@@ -234,16 +234,16 @@ module _ (t u b : List ℕ) (p e kind i j : ℕ) (f g : Translation) (a : Number
     has : is_some (mapping_of f.body kind j) ≡ true
     has = is_some_lem (mapping_of f.body kind j) goes_to
 
-    pub number-code : (c : Bool) → c ≡ is_clause_tag (get_or b p 0) → c ≡ true → ClauseAsks t b p e kind i j f g
-    number-code c ec hc = a.code (sym ec ∙ hc) has
+    pub number_code : (c : Bool) → c ≡ is_clause_tag (get_or b p 0) → c ≡ true → ClauseAsks t b p e kind i j f g
+    number_code c ec hc = a.code (sym ec ∙ hc) has
 
     pub number_there : (o o' : List ℕ) (n : ℕ) (r : Stored) → Stores (paired_field f g b p j) o o' n r → Stores (number_field f g b p j) o o' n r
     number_there o o' n r w = rw (field_of true has) w
 
-    pub number-mapping : (c : Bool) → c ≡ is_clause_tag (get_or b p 0) → c ≡ false → (s l : ℕ) → s ≡ get_or b (p + 3) 0 → l ≡ j
+    pub number_mapping : (c : Bool) → c ≡ is_clause_tag (get_or b p 0) → c ≡ false → (s l : ℕ) → s ≡ get_or b (p + 3) 0 → l ≡ j
         → (o o' : List ℕ) (n : ℕ) (r : Stored) → Stores (encode_field (item_field (mapping s (16 * i + l) (to - 1)))) o o' n r → Stores (number_field f g b p j) o o' n r
     unfolding paired_field number_of mapped
-    number-mapping c ec hc s l es el o o' n r w =
+    number_mapping c ec hc s l es el o o' n r w =
         let m = mapping_at b p a.whole (sym ec ∙ hc) (item_facts b p a.whole) in
         let rs : get_or b (p + 3) 0 ≡ s = sym es in
         let y : m.number ≡ i = sym (a.number ∙ ap number_of m.item) in
@@ -305,11 +305,11 @@ writing_start result left o from e = record { rest = λ out' x w. subst (λ (v :
 
 module _ (result left o out : List ℕ) (from n : ℕ) (h : Writing result left o out from n) where
   module _ (v more : List ℕ) (e : left ≡ v ++ more) (out' : List ℕ) (x : Stored) (w : Stores v out out' n x) where
-    pub writing-full : x ≡ Full → Stores result o out' from Full
-    writing-full q = h.rest out' Full (subst (λ (y : List ℕ). Stores y out out' n Full) (sym e) (both_full v more out out' n x w q))
+    pub writing_full : x ≡ Full → Stores result o out' from Full
+    writing_full q = h.rest out' Full (subst (λ (y : List ℕ). Stores y out out' n Full) (sym e) (both_full v more out out' n x w q))
 
-    pub writing-next : (m : ℕ) → x ≡ To m → length out' ≡ length out → Writing result more o out' from m
-    writing-next m d l = record {
+    pub writing_next : (m : ℕ) → x ≡ To m → length out' ≡ length out → Writing result more o out' from m
+    writing_next m d l = record {
       rest = λ out'' y k. h.rest out'' y (subst (λ (r : List ℕ). Stores r out out'' n y) (sym e) (both_then v more out out' n x w m d out'' y l k));
     }
 

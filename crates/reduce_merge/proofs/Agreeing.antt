@@ -16,7 +16,7 @@ use Rattle.format_fields.proofs.Keyed.{From, from_mem}
 use Rattle.format_language.specs.Inner.Entries.{entry_good, entry_whole, RisingEntries, results_meet}
 use Rattle.format_language.proofs.Facts.{entries_long}
 use Rattle.reduce_merge.specs.Inner.Parts.{Part, part_key, same_part, piece_at, part_at, parts_from, Sorted, parts_clash, agrees, fit_together}
-use Rattle.reduce_merge.proofs.Walks.{parts_done, parts_next, clash-other, clash-same}
+use Rattle.reduce_merge.proofs.Walks.{parts_done, parts_next, clash_other, clash_same}
 use Rattle.reduce_merge.proofs.Linear.{all_alike}
 use Rattle.reduce_merge.proofs.Turns.{Rest, rest_next, here_rises}
 
@@ -77,9 +77,9 @@ module _ (first : ℕ) (a b : List ℕ) (p q : ℕ) (h : Agreeing first a b p q)
 
   module _ (there : p < length a) where
     -- past a field of a, where all fields that are left of b are above it
-    drop-left : From part_key (suc (order_at first a p)) (parts_from first b q) → (e : ℕ) → e ≡ field_end a p → Agreeing first a b e q
+    drop_left : From part_key (suc (order_at first a p)) (parts_from first b q) → (e : ℕ) → e ≡ field_end a p → Agreeing first a b e q
     unfolding part_at
-    drop-left g e ee = record {
+    drop_left g e ee = record {
       left = rest_next first a p h.left there e ee;
       right = h.right;
       answer =
@@ -90,8 +90,8 @@ module _ (first : ℕ) (a b : List ℕ) (p q : ℕ) (h : Agreeing first a b p q)
     }
 
     -- nothing is left of b
-    pub agree-out : length b ≤ q → (e : ℕ) → e ≡ field_end a p → Agreeing first a b e q
-    agree-out d = drop-left (rw (parts_done first b q d) tt)
+    pub agree_out : length b ≤ q → (e : ℕ) → e ≡ field_end a p → Agreeing first a b e q
+    agree_out d = drop_left (rw (parts_done first b q d) tt)
 
     module _ (here : q < length b) where
       heads : agree part_key same_part (part_at first a p ∷ parts_from first a (field_end a p)) (part_at first b q ∷ parts_from first b (field_end b q)) ≡ agrees first a b
@@ -99,11 +99,11 @@ module _ (first : ℕ) (a b : List ℕ) (p q : ℕ) (h : Agreeing first a b p q)
 
       module _ (j k : ℕ) (ej : j ≡ order_at first a p) (ek : k ≡ order_at first b q) where
         -- the field of a is below those that are left of b
-        pub agree-below : j < k → (e : ℕ) → e ≡ field_end a p → Agreeing first a b e q
+        pub agree_below : j < k → (e : ℕ) → e ≡ field_end a p → Agreeing first a b e q
         unfolding part_at
-        agree-below d =
+        agree_below d =
             let g : suc (order_at first a p) ≤ order_at first b q = omega arith in
-            drop-left (rw (parts_next first b q here) (g, here_rises first b q h.right here))
+            drop_left (rw (parts_next first b q here) (g, here_rises first b q h.right here))
 
         -- past a field of b, that is below those that are left of a or the same as the first of them
         pass : k ≤ j → parts_clash (part_at first a p) (part_at first b q) ≡ false → (e : ℕ) → e ≡ field_end b q → Agreeing first a b p e
@@ -122,16 +122,16 @@ module _ (first : ℕ) (a b : List ℕ) (p q : ℕ) (h : Agreeing first a b p q)
             }
 
         -- the field of b is below those that are left of a
-        pub agree-above : k ≤ j → (j ≡ k → ⊥) → (e : ℕ) → e ≡ field_end b q → Agreeing first a b p e
-        agree-above d n = pass d (sym (clash-other first a p b q j k ej ek n))
+        pub agree_above : k ≤ j → (j ≡ k → ⊥) → (e : ℕ) → e ≡ field_end b q → Agreeing first a b p e
+        agree_above d n = pass d (sym (clash_other first a p b q j k ej ek n))
 
         -- the fields have one key, and x says whether they are the same
         module _ (one : j ≡ k) (x : Bool) (ex : x ≡ same_numbers (piece_at a p) (piece_at b q)) where
           clash_is : not x ≡ parts_clash (part_at first a p) (part_at first b q)
-          clash_is = clash-same first a p b q j k ej ek one x ex
+          clash_is = clash_same first a p b q j k ej ek one x ex
 
-          pub agree-clash : x ≡ false → false ≡ agrees first a b
-          agree-clash d = sym (agree_meet (part_at first a p) (part_at first b q) _ _ (sym clash_is ∙ ap not d)) ∙ heads
+          pub agree_clash : x ≡ false → false ≡ agrees first a b
+          agree_clash d = sym (agree_meet (part_at first a p) (part_at first b q) _ _ (sym clash_is ∙ ap not d)) ∙ heads
 
           pub agree_same : x ≡ true → (e : ℕ) → e ≡ field_end b q → Agreeing first a b p e
           agree_same d = pass (omega arith) (sym clash_is ∙ ap not d)
@@ -149,11 +149,11 @@ entries_sorted s h = record {
 module _ (a b : List ℕ) (x : Bool) (ex : x ≡ (results_meet a b || results_meet b a)) where
   clashing : fit_together a b ≡ (not x && agrees 0x11 a b)
   unfolding fit_together
-  clashing = rw ex (by-or (results_meet a b) (results_meet b a) (agrees 0x11 a b))
+  clashing = rw ex (by_or (results_meet a b) (results_meet b a) (agrees 0x11 a b))
     where
-      by-or : (p q r : Bool) → (not p && (not q && r)) ≡ (not (p || q) && r)
-      by-or true q r = refl
-      by-or false q r = refl
+      by_or : (p q r : Bool) → (not p && (not q && r)) ≡ (not (p || q) && r)
+      by_or true q r = refl
+      by_or false q r = refl
 
   pub fit_clash : x ≡ true → false ≡ fit_together a b
   fit_clash h = sym (clashing ∙ rw h)

@@ -6,7 +6,7 @@ use mathlib.Core.Logic.{◌⊎◌, ⊎_elim}
 use mathlib.Core.List.{List, [], ◌∷◌}
 use native.Mathlib.Omega.{arith}
 use lib.ListN.{length, take, get_or}
-use lib.Seq.{slice, get_or-take, get_or-drop}
+use lib.Seq.{get_or-take, get_or-drop}
 use lib.Dec.{ltb, eqb}
 use borrow.Author.Tests.{lt-ltb, le-ltb, ltb-true, ltb-false, lt-leb, eq-eqb, ne_eqb, eqb-true}
 use Rattle.format_fields.specs.Lists.{all, same_numbers}
@@ -20,7 +20,7 @@ use Rattle.format_language.specs.Inner.Entries.{size_at, step_at, class_range, e
 use Rattle.format_language.proofs.Facts.{entry_facts}
 use Rattle.reduce_merge.specs.Inner.Parts.{Part, part_within, class_part, piece_at, part_at, parts_from, WholeAt, WholeFrom, seek, SoughtAt, leads, lies_within}
 use Rattle.reduce_merge.proofs.Walks.{parts_done, parts_next, whole_here, seek_skip, seek_stop}
-use Rattle.reduce_merge.proofs.Turns.{Rest, rest_next, rest_sought, within-turned}
+use Rattle.reduce_merge.proofs.Turns.{Rest, rest_next, rest_sought, within_turned}
 
 -- A field in a file and its own bytes.
 module _ (s : List ℕ) (p : ℕ) (w : WholeAt s p) where
@@ -41,15 +41,15 @@ module _ (s : List ℕ) (p : ℕ) (w : WholeAt s p) where
   piece_tag = let d : p + 0 ≡ p = omega arith in piece_byte 0 (omega arith) ∙ ap (λ (i : ℕ). get_or s i 0) d
 
   module _ (h : IsClass (piece_at s p) 0) where
-    size-here : (size_at s p ≡ 5) ⊎ (size_at s p ≡ 7)
-    size-here = rw piece_size at h.size
+    size_here : (size_at s p ≡ 5) ⊎ (size_at s p ≡ 7)
+    size_here = rw piece_size at h.size
 
-    size-five : 5 ≤ size_at s p
-    size-five = ⊎_elim (λ e. omega arith) (λ e. omega arith) size-here
+    size_five : 5 ≤ size_at s p
+    size_five = ⊎_elim (λ e. omega arith) (λ e. omega arith) size_here
 
-    step-there : step_at (piece_at s p) 0 ≡ step_at s p
+    step_there : step_at (piece_at s p) 0 ≡ step_at s p
     unfolding step_at
-    step-there =
+    step_there =
         by_test (eqb (size_at s p) 7)
         (λ e. let n : size_at s p ≡ 7 = eqb-true (size_at s p) 7 e in cc (piece_size, piece_pair 8 (omega arith)))
         (λ e. cc piece_size)
@@ -58,20 +58,20 @@ module _ (s : List ℕ) (p : ℕ) (w : WholeAt s p) where
     range_there : class_range (piece_at s p) 0 ≡ class_range s p
     unfolding class_range
     range_there =
-        let n = size-five in
-        cc (piece_pair 4 (omega arith), piece_pair 6 (omega arith), step-there)
+        let n = size_five in
+        cc (piece_pair 4 (omega arith), piece_pair 6 (omega arith), step_there)
 
     -- so is that it is a class
     class_there : IsClass s p
     class_there =
-        let n = size-five in
+        let n = size_five in
         record {
           tag = sym piece_tag ∙ h.tag;
           fits = w.fits;
-          size = size-here;
+          size = size_here;
           kind = rw (piece_byte 3 (omega arith)) at h.kind;
           range = rw (piece_pair 4 (omega arith), piece_pair 6 (omega arith)) at h.range;
-          step = rw step-there at h.step;
+          step = rw step_there at h.step;
         }
 
   -- A field with the key of a class that is whole.
@@ -142,8 +142,8 @@ module _ (a b : List ℕ) (p q : ℕ) (h : Containing a b p q) where
     long_here = all_true class_part (part_at 0x11 a p) (parts_from 0x11 a (field_end a p)) (rw (parts_next 0x11 a p here) at h.left_long)
 
     module _ (key : ℕ) (ek : key ≡ order_at 0x11 a p) (r : ℕ) (w : SoughtAt 0x11 b q key r) where
-      pub containing-meets : WholeAt a p × WholeFrom b r × (class_part (part_at 0x11 a p) ≡ true) × (all class_part (parts_from 0x11 b r) ≡ true)
-      containing-meets = (
+      pub containing_meets : WholeAt a p × WholeFrom b r × (class_part (part_at 0x11 a p) ≡ true) × (all class_part (parts_from 0x11 b r) ≡ true)
+      containing_meets = (
         whole_here a p h.left.from here,
         w.from,
         long_here.0,
@@ -154,16 +154,16 @@ module _ (a b : List ℕ) (p q : ℕ) (h : Containing a b p q) where
         turned : (t : Bool) → lies ≡ t → (e : ℕ) → e ≡ field_end a p → t && within part_within (parts_from 0x11 a e) (parts_from 0x11 b r) ≡ lies_within a b
         turned t z e ee =
             ap (λ (u : Bool). u && within part_within (parts_from 0x11 a e) (parts_from 0x11 b r)) (sym z)
-            ∙ (sym (within-turned 0x11 a b p q h.left h.right here key ek r w e ee lies es) ∙ h.answer)
+            ∙ (sym (within_turned 0x11 a b p q h.left h.right here key ek r w e ee lies es) ∙ h.answer)
 
-        pub containing-stop : lies ≡ false → false ≡ lies_within a b
-        containing-stop z = turned false z (field_end a p) refl
+        pub containing_stop : lies ≡ false → false ≡ lies_within a b
+        containing_stop z = turned false z (field_end a p) refl
 
-        pub containing-on : lies ≡ true → (e : ℕ) → e ≡ field_end a p → Containing a b e r
-        containing-on z e ee = record {
+        pub containing_on : lies ≡ true → (e : ℕ) → e ≡ field_end a p → Containing a b e r
+        containing_on z e ee = record {
           left = rest_next 0x11 a p h.left here e ee;
           right = rest_sought 0x11 b q key r h.right w;
           left_long = rw ee long_here.1;
-          right_long = containing-meets.3;
+          right_long = containing_meets.3;
           answer = turned true z e ee;
         }

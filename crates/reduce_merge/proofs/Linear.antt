@@ -197,15 +197,15 @@ module _ (alike : Part → Part → Bool) (apart : (x y : Part) → (x.key ≡ y
     further : (a : Part) → Mem a l → holds alike m a ≡ holds alike (seek x.key m) a
     further a q = seek_holds x.key a (omega (arith, from_mem part_key l f q)) m
 
-    pub without-turn : without alike (x ∷ l) m
+    pub without_turn : without alike (x ∷ l) m
         ≡ cond (not (leads alike x (seek x.key m))) (x ∷ without alike l (seek x.key m)) (without alike l (seek x.key m))
     unfolding without keep
-    without-turn =
+    without_turn =
         rw (found x n m g, keep_alike (λ a. not (holds alike m a)) (λ a. not (holds alike (seek x.key m) a)) l (λ a q. ap not (further a q)))
 
-    pub within-turn : within alike (x ∷ l) m ≡ leads alike x (seek x.key m) && within alike l (seek x.key m)
+    pub within_turn : within alike (x ∷ l) m ≡ leads alike x (seek x.key m) && within alike l (seek x.key m)
     unfolding within all
-    within-turn = rw (found x n m g, all_alike (holds alike m) (holds alike (seek x.key m)) l further)
+    within_turn = rw (found x n m g, all_alike (holds alike m) (holds alike (seek x.key m)) l further)
 
   -- Where both lists begin with x, it stands in the second, and of the others as many stand in what is left of it.
   module _ (self : (x : Part) → alike x x ≡ true) (x : Part) (l : List Part) (f : From part_key (suc x.key) l) (m : List Part) where
@@ -221,9 +221,9 @@ module _ (alike : Part → Part → Bool) (apart : (x y : Part) → (x.key ≡ y
     unfolding within all
     within_same = rw (first_holds, all_alike (holds alike (x ∷ m)) (holds alike m) l past_first)
 
-    pub without-same : without alike (x ∷ l) (x ∷ m) ≡ without alike l m
+    pub without_same : without alike (x ∷ l) (x ∷ m) ≡ without alike l m
     unfolding without keep
-    without-same =
+    without_same =
         rw (first_holds, keep_alike (λ a. not (holds alike (x ∷ m) a)) (λ a. not (holds alike m a)) l (λ a q. ap not (past_first a q)))
 
 -- Fields of different keys are not the same, and a field is the same as itself.

@@ -22,7 +22,7 @@ use Rattle.format_fields.proofs.Places.{end_past, places_done}
 use Rattle.reduce_merge.specs.Inner.Parts.{Part, part_key, same_part, part_within, class_part, bytes_of, piece_at, part_at, parts_from, parts, WholeFrom, Sorted, SortedEntries, Alike, Shared, parts_clash, agrees, lies_within, united, removed}
 use Rattle.format_fields.proofs.Splices.{slice_join}
 use Rattle.reduce_merge.proofs.Walks.{parts_done, parts_next, whole_next}
-use Rattle.reduce_merge.proofs.Linear.{union_same, within_same, without-same, differ, self, outside, inside_itself}
+use Rattle.reduce_merge.proofs.Linear.{union_same, within_same, without_same, differ, self, outside, inside_itself}
 use Rattle.reduce_merge.proofs.Turns.{Rest, Going, Merging, progress_start, bytes_append, bytes_cons, bytes_none, all_bytes}
 use Rattle.reduce_merge.proofs.Containing.{Containing}
 use Rattle.reduce_merge.proofs.Agreeing.{Agreeing, agree_pass, agree_drop}
@@ -72,29 +72,29 @@ module _ (a b : List ℕ) (n : ℕ) (h : Alike a b n) where
     unfolding pair_at
     pair_same i l = rw (byte_same i (omega arith), byte_same (i + 1) (omega arith))
 
-    plain-same : (first : ℕ) → key_at first a p ≡ key_at first b p
+    plain_same : (first : ℕ) → key_at first a p ≡ key_at first b p
     unfolding key_at
-    plain-same first = rw (byte_same p (omega arith), byte_same (p + 3) (omega arith), pair_same (p + 3) (omega arith))
+    plain_same first = rw (byte_same p (omega arith), byte_same (p + 3) (omega arith), pair_same (p + 3) (omega arith))
 
     item_same : field_end a p ≤ n → item_order a p ≡ item_order b p
     unfolding item_order field_end
     item_same f =
         by_test (ltb (pair_at a (p + 1)) 3)
         (λ t. let u : ltb (pair_at b (p + 1)) 3 ≡ true = rw (pair_same (p + 1) (omega arith)) at t in
-        rw (t, u, byte_same p (omega arith), plain-same 0x22, pair_same (p + 3) (omega arith)))
+        rw (t, u, byte_same p (omega arith), plain_same 0x22, pair_same (p + 3) (omega arith)))
         (λ t. let u : ltb (pair_at b (p + 1)) 3 ≡ false = rw (pair_same (p + 1) (omega arith)) at t in
         let l : 3 ≤ pair_at a (p + 1) = ltb-false _ _ t in
-        rw (t, u, byte_same p (omega arith), plain-same 0x22, pair_same (p + 3) (omega arith), byte_same (p + 5) (omega arith)))
+        rw (t, u, byte_same p (omega arith), plain_same 0x22, pair_same (p + 3) (omega arith), byte_same (p + 5) (omega arith)))
 
-    key-same : (first : ℕ) → field_end a p ≤ n → order_at first a p ≡ order_at first b p
+    key_same : (first : ℕ) → field_end a p ≤ n → order_at first a p ≡ order_at first b p
     unfolding order_at
-    key-same first f = rw (item_same f, plain-same first)
+    key_same first f = rw (item_same f, plain_same first)
 
     part_same : (first : ℕ) → field_end a p ≤ n → part_at first a p ≡ part_at first b p
     unfolding part_at
     part_same first f =
         let d : piece_at a p ≡ piece_at b p = slice_same p (field_end a p) f ∙ ap (λ (e : ℕ). slice p e b) end_same in
-        cc (key-same first f)
+        cc (key_same first f)
 
 -- `shared`: no field is passed
 pub shared_start : (first : ℕ) (a b : List ℕ) → WholeFrom a 0 → WholeFrom b 0 → Shared first a b 0
@@ -195,7 +195,7 @@ within_alike (x ∷ l) u v m f = within_same part_within outside inside_itself x
 
 without_alike : (l u v : List Part) (m : ℕ) → From part_key m (l ++ u) → without same_part (l ++ u) (l ++ v) ≡ without same_part u v
 without_alike [] u v m f = refl
-without_alike (x ∷ l) u v m f = without-same same_part differ self x (l ++ u) f.1 (l ++ v) ∙ without_alike l u v (suc x.key) f.1
+without_alike (x ∷ l) u v m f = without_same same_part differ self x (l ++ u) f.1 (l ++ v) ∙ without_alike l u v (suc x.key) f.1
 
 -- `agree`, `merge` and the others go on where the fields end that are the same.
 module _ (first : ℕ) (a b : List ℕ) (r : ℕ) (h : Sorted first a × Sorted first b) (s : Shared first a b r) where

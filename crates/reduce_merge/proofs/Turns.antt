@@ -8,7 +8,7 @@ use lib.ListN.{length, length-append}
 use lib.Seq.{slice, slice_empty}
 use lib.Dec.{ltb, leb}
 use borrow.Author.Tests.{ltb-true, ltb-false, leb-true, leb-false}
-use Rattle.format_fields.specs.Lists.{all, keep, concat_map}
+use Rattle.format_fields.specs.Lists.{keep, concat_map}
 use Rattle.format_fields.specs.Keyed.{union, within, without}
 use Rattle.format_fields.specs.Inner.Places.{field_end, order_at}
 use Rattle.format_fields.specs.Inner.Writing.{Inside, Written, Stores}
@@ -21,7 +21,7 @@ use Rattle.format_fields.specs.declared.copy.Stored.TheVariants.{To, Full}
 use Rattle.reduce_merge.specs.Inner.Parts.{Part, part_key, same_part, part_within, bytes_of, piece_at, part_at, parts_from, parts, WholeAt, WholeFrom, Sorted, lower, seek, SoughtAt, leads, united}
 use Rattle.format_fields.proofs.Splices.{slice_join, nothing_spliced, written_then}
 use Rattle.reduce_merge.proofs.Walks.{parts_done, parts_next, whole_here, whole_next}
-use Rattle.reduce_merge.proofs.Linear.{union_none, union_low, union_same, union_nothing, union_high, without-turn, within-turn, seek_from, differ, outside}
+use Rattle.reduce_merge.proofs.Linear.{union_none, union_low, union_same, union_nothing, union_high, without_turn, within_turn, seek_from, differ, outside}
 
 -- What is written of a result, and what is left of it.
 pub record Progress (result left o out : List ℕ) (n : ℕ) : Type 0 where
@@ -41,16 +41,16 @@ progress_start result o = record {
 module _ (result left o out : List ℕ) (n : ℕ) (h : Progress result left o out n) where
   -- v is to be written next, and then more is left
   module _ (v more : List ℕ) (e : left ≡ v ++ more) (out' : List ℕ) (x : Stored) (w : Stores v out out' n x) where
-    pub progress-on : (m : ℕ) → x ≡ To m → length out' ≡ length out → Progress result more o out' m
-    progress-on m d l = record {
+    pub progress_on : (m : ℕ) → x ≡ To m → length out' ≡ length out → Progress result more o out' m
+    progress_on m d l = record {
       before = h.before ++ v;
       all = append_assoc h.before v more ∙ (ap (λ (r : List ℕ). h.before ++ r) (sym e) ∙ h.all);
       written = written_then h.before v o out out' 0 n m h.written (w.done m d) h.long;
       long = l ∙ h.long;
     }
 
-    pub progress-full : x ≡ Full → Stores result o out' 0 Full
-    progress-full d = record {
+    pub progress_full : x ≡ Full → Stores result o out' 0 Full
+    progress_full d = record {
       done = λ m q. let z : ◌≡◌ {A = ℕ} 0 1 = cc in absurd (omega arith);
       full = λ q.
           omega (arith, w.full d, h.long, h.written.end, ap length h.all, length-append h.before left, ap length e, length-append v more);
@@ -162,36 +162,36 @@ module _ (first : ℕ) (a b : List ℕ) (p q : ℕ) (ra : Rest first a p) (rb : 
     sought : seek (order_at first a p) (parts_from first b q) ≡ parts_from first b r
     sought = sym (rw ek at w.rest)
 
-    leads-is : (alike : Part → Part → Bool) (stands : Bool) → stands ≡ leads alike (part_at first a p) (parts_from first b r)
+    leads_is : (alike : Part → Part → Bool) (stands : Bool) → stands ≡ leads alike (part_at first a p) (parts_from first b r)
         → leads alike (part_at first a p) (seek (order_at first a p) (parts_from first b q)) ≡ stands
-    leads-is alike stands es = ap (leads alike (part_at first a p)) sought ∙ sym es
+    leads_is alike stands es = ap (leads alike (part_at first a p)) sought ∙ sym es
 
     -- `remove`
-    pub remove-turn : (e : ℕ) → e ≡ field_end a p → (stands : Bool) → stands ≡ leads same_part (part_at first a p) (parts_from first b r)
+    pub remove_turn : (e : ℕ) → e ≡ field_end a p → (stands : Bool) → stands ≡ leads same_part (part_at first a p) (parts_from first b r)
         → bytes_of (without same_part (parts_from first a p) (parts_from first b q))
         ≡ cond (not stands) (slice p e a) [] ++ bytes_of (without same_part (parts_from first a e) (parts_from first b r))
     unfolding part_at
-    remove-turn e ee stands es =
+    remove_turn e ee stands es =
         let l = parts_from first a (field_end a p) in
         let m = parts_from first b q in
         let k = order_at first a p in
         rw (ee, ← sought)
-        (ap bytes_of (ap (λ (r : List Part). without same_part r m) next ∙ without-turn same_part differ (part_at first a p) l (here_rises first a p ra here) rb.least m rb.rises)
-        ∙ (ap (λ (t : Bool). bytes_of (cond (not t) (part_at first a p ∷ without same_part l (seek k m)) (without same_part l (seek k m)))) (leads-is same_part stands es)
+        (ap bytes_of (ap (λ (r : List Part). without same_part r m) next ∙ without_turn same_part differ (part_at first a p) l (here_rises first a p ra here) rb.least m rb.rises)
+        ∙ (ap (λ (t : Bool). bytes_of (cond (not t) (part_at first a p ∷ without same_part l (seek k m)) (without same_part l (seek k m)))) (leads_is same_part stands es)
         ∙ bytes_cond (not stands) (part_at first a p) (without same_part l (seek k m))))
 
     -- `lies_within`
-    pub within-turned : (e : ℕ) → e ≡ field_end a p → (lies : Bool) → lies ≡ leads part_within (part_at first a p) (parts_from first b r)
+    pub within_turned : (e : ℕ) → e ≡ field_end a p → (lies : Bool) → lies ≡ leads part_within (part_at first a p) (parts_from first b r)
         → within part_within (parts_from first a p) (parts_from first b q)
         ≡ lies && within part_within (parts_from first a e) (parts_from first b r)
     unfolding part_at
-    within-turned e ee lies es =
+    within_turned e ee lies es =
         let l = parts_from first a (field_end a p) in
         let m = parts_from first b q in
         rw (ee, ← sought)
         (ap (λ (r : List Part). within part_within r m) next
-        ∙ (within-turn part_within outside (part_at first a p) l (here_rises first a p ra here) rb.least m rb.rises
-        ∙ ap (λ (t : Bool). t && within part_within l (seek (order_at first a p) m)) (leads-is part_within lies es)))
+        ∙ (within_turn part_within outside (part_at first a p) l (here_rises first a p ra here) rb.least m rb.rises
+        ∙ ap (λ (t : Bool). t && within part_within l (seek (order_at first a p) m)) (leads_is part_within lies es)))
 
 -- At the end of a.
 module _ (first : ℕ) (a b : List ℕ) (p q : ℕ) (end : length a ≤ p) where
@@ -279,9 +279,9 @@ module _ (first : ℕ) (a b o out : List ℕ) (from p q n : ℕ) (h : Merging fi
       right_rises : From part_key h.right.least (part_at first b q ∷ parts_from first b (field_end b q))
       right_rises = rw next_right at h.right.rises
 
-      pub merging-low : j ≤ k → (j ≡ k → ⊥) → (e : ℕ) → e ≡ field_end a p → Merging first a b o out from e q n
+      pub merging_low : j ≤ k → (j ≡ k → ⊥) → (e : ℕ) → e ≡ field_end a p → Merging first a b o out from e q n
       unfolding part_at
-      merging-low u v e ee =
+      merging_low u v e ee =
           let d : order_at first a p < order_at first b q =
           by_test (ltb j k) (λ t. let z : j < k = ltb-true _ _ t in omega arith) (λ t. absurd (v (omega (arith, ltb-false j k t)))) in
           let w : union part_key (x ∷ l) (parts_from first b q) ≡ x ∷ union part_key l (parts_from first b q) =
@@ -293,9 +293,9 @@ module _ (first : ℕ) (a b o out : List ℕ) (from p q n : ℕ) (h : Merging fi
             right = h.right;
           })
 
-      pub merging-both : j ≡ k → (e : ℕ) → e ≡ field_end a p → (d : ℕ) → d ≡ field_end b q → Merging first a b o out from e d n
+      pub merging_both : j ≡ k → (e : ℕ) → e ≡ field_end a p → (d : ℕ) → d ≡ field_end b q → Merging first a b o out from e d n
       unfolding part_at
-      merging-both v e ee d ed =
+      merging_both v e ee d ed =
           let f : order_at first b q ≡ order_at first a p = omega arith in
           let w : union part_key (x ∷ l) (parts_from first b q) ≡ x ∷ union part_key l (parts_from first b (field_end b q)) =
           rw next_right (union_same x (part_at first b q) l (parts_from first b (field_end b q)) h.right.least (here_rises first a p h.left there) right_rises f) in
@@ -308,9 +308,9 @@ module _ (first : ℕ) (a b o out : List ℕ) (from p q n : ℕ) (h : Merging fi
 
       -- b is sought through for the key of the field of a
       module _ (low : k < j) (d : ℕ) (s : SoughtAt first b q j d) where
-        pub merging-moves : q < d
+        pub merging_moves : q < d
         unfolding part_at
-        merging-moves =
+        merging_moves =
             by_test (ltb q d) (λ t. ltb-true _ _ t)
             (λ t.
             let e : d ≡ q = omega (arith, ltb-false q d t, s.past) in
@@ -331,12 +331,12 @@ module _ (first : ℕ) (a b o out : List ℕ) (from p q n : ℕ) (h : Merging fi
             ∙ sym (append_assoc (slice from p a) (slice q d b) (bytes_of (union part_key (parts_from first a p) (parts_from first b d))))))
 
         module _ (out' : List ℕ) (y : Stored) (w : Stores (slice from p a ++ slice q d b) out out' n y) where
-          pub merging-full : y ≡ Full → Stores (united first a b) o out' 0 Full
-          merging-full e = progress-full _ _ _ _ _ h.progress _ _ split out' y w e
+          pub merging_full : y ≡ Full → Stores (united first a b) o out' 0 Full
+          merging_full e = progress_full _ _ _ _ _ h.progress _ _ split out' y w e
 
-          pub merging-high : (m : ℕ) → y ≡ To m → length out' ≡ length out → Merging first a b o out' p p d m
-          merging-high m e i = record {
-            progress = rw (slice_empty p a) (progress-on _ _ _ _ _ h.progress _ _ split out' y w m e i);
+          pub merging_high : (m : ℕ) → y ≡ To m → length out' ≡ length out → Merging first a b o out' p p d m
+          merging_high m e i = record {
+            progress = rw (slice_empty p a) (progress_on _ _ _ _ _ h.progress _ _ split out' y w m e i);
             rise = omega arith;
             left = h.left;
             right = rest_sought first b q j d h.right s;

@@ -2,7 +2,7 @@
 use Prim.Native.Nat.{ℕ, ◌+◌, ◌-◌, ◌<◌, ◌≤◌}
 use mathlib.Core.Path.{◌≡◌, refl, sym, ap, ◌∙◌}
 use mathlib.Core.Bool.{Bool, true, false, not}
-use mathlib.Core.List.{List, [], ◌∷◌, ◌++◌, append-nil, append_assoc}
+use mathlib.Core.List.{List, [], ◌∷◌, ◌++◌}
 use native.Mathlib.Nat.{add-zero}
 use native.Mathlib.Omega.{arith}
 use lib.ListN.{length, get_or}
@@ -161,9 +161,9 @@ module _ (a b : List ℕ) (p e q d : ℕ) (fa : e ≤ length a) (fb : d ≤ leng
           part_next (λ (m : List ℕ). same_numbers (get_or a (p + i) 0 ∷ slice (p + i + 1) e a) m) b (q + i) d x
           (part_next (λ (l : List ℕ). same_numbers l (slice (q + i) d b)) a (p + i) e x inv ha fa) hb fb
 
-      pub same-differ : (get_or a (p + i) 0 ≡ get_or b (q + i) 0 → ⊥) → false ≡ x
+      pub same_differ : (get_or a (p + i) 0 ≡ get_or b (q + i) 0 → ⊥) → false ≡ x
       unfolding same_numbers
-      same-differ h = rw (ne_eqb _ _ h) at heads
+      same_differ h = rw (ne_eqb _ _ h) at heads
 
       pub same_on : get_or a (p + i) 0 ≡ get_or b (q + i) 0 → same_numbers (slice (p + (i + 1)) e a) (slice (q + (i + 1)) d b) ≡ x
       unfolding same_numbers
@@ -178,18 +178,18 @@ module _ (first : ℕ) (a : List ℕ) (p : ℕ) (b : List ℕ) (q : ℕ) where
   stands_end alike h = rw (parts_done first b q h)
 
   module _ (j k : ℕ) (ej : j ≡ order_at first a p) (ek : k ≡ order_at first b q) where
-    pub stands-other : q < length b → (j ≡ k → ⊥) → false ≡ leads same_part (part_at first a p) (parts_from first b q)
+    pub stands_other : q < length b → (j ≡ k → ⊥) → false ≡ leads same_part (part_at first a p) (parts_from first b q)
     unfolding same_part part_at
-    stands-other h d = rw (parts_next first b q h) (cc (ne_eqb j k d))
+    stands_other h d = rw (parts_next first b q h) (cc (ne_eqb j k d))
 
     pub stands_same : q < length b → j ≡ k → (x : Bool) → x ≡ same_numbers (piece_at a p) (piece_at b q) → x ≡ leads same_part (part_at first a p) (parts_from first b q)
     unfolding same_part part_at
     stands_same h d x e = rw (parts_next first b q h) (cc (eq-eqb j k d))
 
-    pub clash-other : (j ≡ k → ⊥) → false ≡ parts_clash (part_at first a p) (part_at first b q)
+    pub clash_other : (j ≡ k → ⊥) → false ≡ parts_clash (part_at first a p) (part_at first b q)
     unfolding parts_clash part_at
-    clash-other d = cc (ne_eqb j k d)
+    clash_other d = cc (ne_eqb j k d)
 
-    pub clash-same : j ≡ k → (x : Bool) → x ≡ same_numbers (piece_at a p) (piece_at b q) → not x ≡ parts_clash (part_at first a p) (part_at first b q)
+    pub clash_same : j ≡ k → (x : Bool) → x ≡ same_numbers (piece_at a p) (piece_at b q) → not x ≡ parts_clash (part_at first a p) (part_at first b q)
     unfolding parts_clash part_at
-    clash-same d x e = cc (eq-eqb j k d)
+    clash_same d x e = cc (eq-eqb j k d)

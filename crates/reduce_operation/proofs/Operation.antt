@@ -71,15 +71,15 @@ module _ (s : List ℕ) (w o : ℕ) where
 
   module _ {p : Pack} (opens : pack_of s ≡ value p) where
     -- Its term is refused.
-    pub ready-term : {q : Outcome} {z : Reason} → q ≡ checked (term_of p) → q ≡ Refused z → q ≡ checked (ready s w o)
+    pub ready_term : {q : Outcome} {z : Reason} → q ≡ checked (term_of p) → q ≡ Refused z → q ≡ checked (ready s w o)
     unfolding ready
-    ready-term e d = let h = checked_refused (term_of p) (sym e ∙ d) in rw (opens, h) d
+    ready_term e d = let h = checked_refused (term_of p) (sym e ∙ d) in rw (opens, h) d
 
     -- The room is, or is not, enough.
-    pub ready-room : {t : Term translations} {q : Outcome} → term_of p ≡ value t → (b : Bool) → (ltb w 65536 || ltb o 4096) ≡ b
+    pub ready_room : {t : Term translations} {q : Outcome} → term_of p ≡ value t → (b : Bool) → (ltb w 65536 || ltb o 4096) ≡ b
         → q ≡ checked {A = Ready} (refuse_if b BuffersTooShort (value (record { pack = p; term = t }))) → q ≡ checked (ready s w o)
     unfolding ready
-    ready-room e b d h = rw (opens, e, d) h
+    ready_room e b d h = rw (opens, e, d) h
 
 -- What evaluation asks for.
 abbrev pub work_context : (pack workspace : List ℕ) (places : Places) (p : Pack) → pack_of pack ≡ value p → Sized places × ((j : ℕ) → get_or places.starts j 0 ≡ 0) → 65536 ≤ length workspace

@@ -38,7 +38,7 @@ use Rattle.reduce_operators.specs.Operators.{languages_fit, language_union, lang
 use Rattle.reduce_merge.specs.Inner.Parts.{Part, part_key, same_part, part_within, class_part, bytes_of, piece_at, part_at, parts_from, parts, Sorted, SortedEntries, united, removed, lies_within, agrees, fit_together}
 use Rattle.format_fields.proofs.Splices.{slice_is}
 use Rattle.reduce_merge.proofs.Walks.{parts_done, parts_next}
-use Rattle.reduce_operators.proofs.Mapped.{union-mapped, within_mapped, without-mapped, agree-mapped}
+use Rattle.reduce_operators.proofs.Mapped.{union_mapped, within_mapped, without_mapped, agree_mapped}
 
 -- The key of a field without a number; with it, in a body; and the field by key and bytes.
 abbrev plain_field_key : ℕ → ℕ → List ℕ → ℕ
@@ -236,8 +236,8 @@ record Kept {A : Type 0} (first : ℕ) (encode : A → Field) (key : A → ℕ) 
 
 module _ {A : Type 0} {first : ℕ} {encode : A → Field} {key : A → ℕ} {alike : A → A → Bool} (kept : Kept first encode key alike) where
   -- An entry by key and bytes, and the bytes of entries.
-  abbrev entryPart : A → Part
-  entryPart a = field_part first (encode a)
+  abbrev entry_part : A → Part
+  entry_part a = field_part first (encode a)
 
   abbrev written : List A → List ℕ
   written l = encode_fields (map encode l)
@@ -246,41 +246,41 @@ module _ {A : Type 0} {first : ℕ} {encode : A → Field} {key : A → ℕ} {al
   all_long [] = tt
   all_long (a ∷ l) = (kept.long a, all_long l)
 
-  entry_parts : (l : List A) → parts first (written l) ≡ map entryPart l
+  entry_parts : (l : List A) → parts first (written l) ≡ map entry_part l
   entry_parts l = parts_encode first (map encode l) (all_long l) ∙ map_map (field_part first) encode l
 
-  bytes_of_lem : (l : List A) → bytes_of (map entryPart l) ≡ written l
+  bytes_of_lem : (l : List A) → bytes_of (map entry_part l) ≡ written l
   bytes_of_lem l = ap bytes_of (sym (map_map (field_part first) encode l)) ∙ bytes_map first (map encode l)
 
-  same_is : (a b : A) → same_part (entryPart a) (entryPart b) ≡ alike a b
+  same_is : (a b : A) → same_part (entry_part a) (entry_part b) ≡ alike a b
   same_is a b =
-      same_truth (same_part (entryPart a) (entryPart b)) (alike a b)
+      same_truth (same_part (entry_part a) (entry_part b)) (alike a b)
       (λ e.
-      let d : a ≡ b = kept.tells a b (field_equal (encode a) (encode b) (same_bytes (entryPart a) (entryPart b) e)) in
+      let d : a ≡ b = kept.tells a b (field_equal (encode a) (encode b) (same_bytes (entry_part a) (entry_part b) e)) in
       rw d (kept.equal_alike b))
-      (λ e. rw (kept.alike_equal a b e) (same_self (entryPart b)))
+      (λ e. rw (kept.alike_equal a b e) (same_self (entry_part b)))
 
   sorted_of : (l : List A) → rising key l ≡ true → Sorted first (written l)
   unfolding rising
   sorted_of l h = record {
     long = long_encode (map encode l) (all_long l);
     whole = whole_encode (map encode l);
-    rises = rw (entry_parts l) (rising_map part_key entryPart key kept.keys 0 l ∙ h);
+    rises = rw (entry_parts l) (rising_map part_key entry_part key kept.keys 0 l ∙ h);
   }
 
   united_of : (l m : List A) → united first (written l) (written m) ≡ written (union key l m)
   unfolding united
   united_of l m =
-      rw (entry_parts l, entry_parts m) (ap bytes_of (union-mapped entryPart part_key key kept.keys l m) ∙ bytes_of_lem (union key l m))
+      rw (entry_parts l, entry_parts m) (ap bytes_of (union_mapped entry_part part_key key kept.keys l m) ∙ bytes_of_lem (union key l m))
 
   removed_of : (l m : List A) → removed first (written l) (written m) ≡ written (without alike l m)
   unfolding removed
   removed_of l m =
-      rw (entry_parts l, entry_parts m) (ap bytes_of (without-mapped entryPart same_part alike same_is l m) ∙ bytes_of_lem (without alike l m))
+      rw (entry_parts l, entry_parts m) (ap bytes_of (without_mapped entry_part same_part alike same_is l m) ∙ bytes_of_lem (without alike l m))
 
   agrees_of : (l m : List A) → agrees first (written l) (written m) ≡ agree key alike l m
   unfolding agrees
-  agrees_of l m = rw (entry_parts l, entry_parts m) (agree-mapped entryPart same_part alike same_is part_key key kept.keys l m)
+  agrees_of l m = rw (entry_parts l, entry_parts m) (agree_mapped entry_part same_part alike same_is part_key key kept.keys l m)
 
 -- Languages. A step is told by its bytes.
 step_equal : (m n : ℕ) → step_bytes m ≡ step_bytes n → m ≡ n

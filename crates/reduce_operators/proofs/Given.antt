@@ -23,7 +23,7 @@ use Rattle.format_fields.specs.declared.copy.Stored.{Stored}
 use Rattle.format_fields.specs.declared.copy.Stored.TheVariants.{To, Full}
 use Rattle.format_fields.specs.Inner.Writing.{spliced, Written, Stores}
 use Rattle.reduce_operators.specs.Inner.Values.{Gives}
-use Rattle.reduce_merge.proofs.Turns.{Progress, progress_start, progress-on, progress-full, progress_last}
+use Rattle.reduce_merge.proofs.Turns.{Progress, progress_start, progress_on, progress_full, progress_last}
 use Rattle.reduce_operators.specs.Inner.Assembled.{assembled, limited}
 
 -- A refusal.
@@ -122,20 +122,20 @@ module _ (s t b o : List ℕ) where
     unfolding assembled
     opens = refl
 
-    pub source-full : x ≡ Full → Stores (assembled s t b) o o₁ 0 Full
-    source-full e = progress-full (assembled s t b) (assembled s t b) o o 0 (progress_start (assembled s t b) o) _ _ opens o₁ x w e
+    pub source_full : x ≡ Full → Stores (assembled s t b) o o₁ 0 Full
+    source_full e = progress_full (assembled s t b) (assembled s t b) o o 0 (progress_start (assembled s t b) o) _ _ opens o₁ x w e
 
-    pub source-put : (m : ℕ) → x ≡ To m → length o₁ ≡ length o → Progress (assembled s t b) (encode_field (field 0x21 t) ++ b) o o₁ m
-    source-put m e l = progress-on (assembled s t b) (assembled s t b) o o 0 (progress_start (assembled s t b) o) _ _ opens o₁ x w m e l
+    pub source_put : (m : ℕ) → x ≡ To m → length o₁ ≡ length o → Progress (assembled s t b) (encode_field (field 0x21 t) ++ b) o o₁ m
+    source_put m e l = progress_on (assembled s t b) (assembled s t b) o o 0 (progress_start (assembled s t b) o) _ _ opens o₁ x w m e l
 
   -- then the target's
   module _ (o₁ o₂ : List ℕ) (m : ℕ) (h : Progress (assembled s t b) (encode_field (field 0x21 t) ++ b) o o₁ m)
       (x : Stored) (w : Stores (encode_field (field 0x21 t)) o₁ o₂ m x) where
-    pub target-full : x ≡ Full → Stores (assembled s t b) o o₂ 0 Full
-    target-full e = progress-full _ _ o o₁ m h (encode_field (field 0x21 t)) b refl o₂ x w e
+    pub target_full : x ≡ Full → Stores (assembled s t b) o o₂ 0 Full
+    target_full e = progress_full _ _ o o₁ m h (encode_field (field 0x21 t)) b refl o₂ x w e
 
-    pub target-put : (n : ℕ) → x ≡ To n → length o₂ ≡ length o₁ → Progress (assembled s t b) b o o₂ n
-    target-put n e l = progress-on _ _ o o₁ m h (encode_field (field 0x21 t)) b refl o₂ x w n e l
+    pub target_put : (n : ℕ) → x ≡ To n → length o₂ ≡ length o₁ → Progress (assembled s t b) b o o₂ n
+    target_put n e l = progress_on _ _ o o₁ m h (encode_field (field 0x21 t)) b refl o₂ x w n e l
 
   -- and the body last
   pub body_put : (o₂ o₃ : List ℕ) (n : ℕ) → Progress (assembled s t b) b o o₂ n → (x : Stored) → Stores (slice 0 (length b) b) o₂ o₃ n x

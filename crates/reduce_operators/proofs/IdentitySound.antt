@@ -16,7 +16,7 @@ use Rattle.format_language.specs.LanguageFile.{is_kind}
 use Rattle.format_language.proofs.Lookup.{mem_arguments, result_in, argument_in}
 use Rattle.format_language.proofs.Ranges.{within_itself}
 use Rattle.tree_reader.specs.Code.{node, levels, levels_all}
-use Rattle.tree_reader.specs.Typing.{TypedAll, typed-node, typed-argument, typed-nil, typed-cons}
+use Rattle.tree_reader.specs.Typing.{TypedAll, typed_node, typed_argument, typed_nil, typed_cons}
 use Rattle.tree_reader.specs.Syntax.{done, write, code}
 use Rattle.tree_reader.proofs.RoundTrip.{round, as_code}
 use Rattle.format_translation.specs.Translation.{Item, mapping, clause, Body, plain_key, number_of, item_key, mapping_of, mapped}
@@ -48,11 +48,11 @@ Same to ks = (k : ℕ) → Mem k ks → to k 0 ≡ some k
 
 arguments_typed : (l : Language) (to : Mappings) (r ks : List ℕ) → Same to ks → TypedAll l (map to (r ++ ks)) (arguments_from (suc (length r)) ks) ks
 unfolding arguments_from
-arguments_typed l to r [] h = typed-nil
+arguments_typed l to r [] h = typed_nil
 arguments_typed l to r (k ∷ ks) h =
     let rest : TypedAll l (map to (r ++ k ∷ ks)) (arguments_from (suc (suc (length r))) ks) ks
     = rw (← snoc r k ks, ← length_snoc r k) (arguments_typed l to (r ++ k ∷ []) ks (λ j m. h j (inr m))) in
-    typed-cons (typed-argument (kind_use to (r ++ k ∷ ks) (length r) 0 k (get_append r k ks) ∙ h k (inl refl))) rest
+    typed_cons (typed_argument (kind_use to (r ++ k ∷ ks) (length r) 0 k (get_append r k ks) ∙ h k (inl refl))) rest
 
 arguments_levels : (i : ℕ) (ks : List ℕ) → levels_all (arguments_from i ks) ≤ 1
 unfolding arguments_from levels
@@ -169,7 +169,7 @@ module _ (l : Language) (s : Proper l) where
       let q : uses_of (identity_of l) r p ≡ map to ks = uses_are (identity_of l) r p ks e in
       let h : Same to ks = λ j n. identity_mapped j (argument_in l r p ks m j n) in
       rw (q, identity_mapped r (result_in l r p ks m), ← append-nil (write code (node r p (arguments_from 1 ks))))
-      (round l (proper_apart l s) (typed-node e (arguments_typed l to [] ks h)) as_code code_levels [] (identity_levels r p ks))
+      (round l (proper_apart l s) (typed_node e (arguments_typed l to [] ks h)) as_code code_levels [] (identity_levels r p ks))
 
   -- A mapping is that of a kind to itself by number 0.
   identity_mapping : (x j t : ℕ) → Mem (mapping x j t) (identity_of l).body → (is_in l x ≡ true) × (j ≡ 0) × (t ≡ x)

@@ -20,13 +20,13 @@ use Rattle.tree_reader.specs.Typing.{Uses, kind_at, Typed}
 use Rattle.tree_reader.specs.Syntax.{Read, done, write, code}
 use Rattle.tree_reader.proofs.RoundTrip.{round, as_code}
 use Rattle.tree_reader.proofs.Sound.{more_levels, More, read_done}
-use Rattle.tree_reader.proofs.Larger.{Larger, typed-larger}
+use Rattle.tree_reader.proofs.Larger.{Larger, typed_larger}
 use Rattle.format_translation.specs.Translation.{Item, mapping, clause, Translation, number_of, item_key, mapping_of, clause_of, mapped, numbers_of}
 use Rattle.format_translation.specs.Running.{paired, run, uses_of, read_clause, whole_code, clauses_of, transform, code_levels}
 use Rattle.format_translation.proofs.Codec.{item_whole}
 use Rattle.format_translation.proofs.Lookup.{mapping_mem, mem_mapping, mem_mapped, number_mem, mem_number}
 use Rattle.format_translation.proofs.Running.{Small, ByZero, chained, pair_first, pair_second, run_pair}
-use Rattle.format_translation.proofs.Preserved.{Kept, use_kind, kind_use, typed-run, typed-small, typed_tree, run-alike}
+use Rattle.format_translation.proofs.Preserved.{Kept, use_kind, kind_use, typed_run, typed_small, typed_tree, run_alike}
 use Rattle.format_translation.proofs.Fitting.{Fitting, whole_done, clause_code, uses_are, fit_carries}
 use Rattle.reduce_operators.specs.Operators.{entry_within, numbers_low, join_fits, joined}
 use Rattle.reduce_operators.specs.Limits.{is_deep, code_is_deep}
@@ -97,39 +97,39 @@ module _ (f g : Translation) (sf : Sound f) (sg : Sound g) (h : join_fits f g �
 
     -- A mapping of the join: one of the second, by i, and one of the first, by j, of the kind reached.
     record Chained (s n t : ℕ) : Type 0 where
-      by-second : ℕ
+      by_second : ℕ
       by_first : ℕ
       reaches : ℕ
-      second : Mem (mapping s by-second reaches) g.body
+      second : Mem (mapping s by_second reaches) g.body
       first : Mem (mapping reaches by_first t) f.body
-      number : n ≡ paired by-second by_first
+      number : n ≡ paired by_second by_first
 
-    chained-mapping : (s n t : ℕ) → Mem (mapping s n t) (joined f g).body → Chained s n t
-    chained-mapping s n t m = let x = join_cases f g (mapping s n t) m in go x.0 x.1 x.2 x.3 x.4
+    chained_mapping : (s n t : ℕ) → Mem (mapping s n t) (joined f g).body → Chained s n t
+    chained_mapping s n t m = let x = join_cases f g (mapping s n t) m in go x.0 x.1 x.2 x.3 x.4
       where
         go : (a : Item) (j : ℕ) → Mem a g.body → Mem j (numbers_of f.body (reached g a)) → mapping s n t ≡ paired_item f g a j → Chained s n t
         go (mapping v i u) j a b e =
             let q = mapping_parts e in
             let z = number_mem f.body u j b in
             let y : t ≡ z.0 = q.2 ∙ mem_mapped f.body sf.rises u j z.0 z.1 in
-            record { by-second = i; by_first = j; reaches = u; second = rw q.0 a; first = rw y z.1; number = q.1 }
+            record { by_second = i; by_first = j; reaches = u; second = rw q.0 a; first = rw y z.1; number = q.1 }
         go (clause r p i c) j a b e = mapping_clause e
 
-    mapping-joined : (s i u j t : ℕ) → Mem (mapping s i u) g.body → Mem (mapping u j t) f.body → Mem (mapping s (paired i j) t) (joined f g).body
-    mapping-joined s i u j t m n =
+    mapping_joined : (s i u j t : ℕ) → Mem (mapping s i u) g.body → Mem (mapping u j t) f.body → Mem (mapping s (paired i j) t) (joined f g).body
+    mapping_joined s i u j t m n =
         rw (mem_mapped f.body sf.rises u j t n) at (mem_join f g (mapping s i u) j m (mem_number f.body u j t n))
 
     -- What a kind maps to by two numbers paired.
-    pub join-mapped : (k i u j t : ℕ) → mapping_of g.body k i ≡ some u → mapping_of f.body u j ≡ some t → mapping_of (joined f g).body k (paired i j) ≡ some t
-    join-mapped k i u j t e d =
+    pub join_mapped : (k i u j t : ℕ) → mapping_of g.body k i ≡ some u → mapping_of f.body u j ≡ some t → mapping_of (joined f g).body k (paired i j) ≡ some t
+    join_mapped k i u j t e d =
         mem_mapping (joined f g).body body_rises k (paired i j) t
-        (mapping-joined k i u j t (mapping_mem g.body k i u e) (mapping_mem f.body u j t d))
+        (mapping_joined k i u j t (mapping_mem g.body k i u e) (mapping_mem f.body u j t d))
 
     -- And it maps by them only so.
-    pub join-chained : (k i j t : ℕ) → j < 16 → mapping_of (joined f g).body k (paired i j) ≡ some t
+    pub join_chained : (k i j t : ℕ) → j < 16 → mapping_of (joined f g).body k (paired i j) ≡ some t
         → (u : ℕ) × (mapping_of g.body k i ≡ some u) × (mapping_of f.body u j ≡ some t)
-    join-chained k i j t l e =
-        let x = chained-mapping k (paired i j) t (mapping_mem (joined f g).body k (paired i j) t e) in
+    join_chained k i j t l e =
+        let x = chained_mapping k (paired i j) t (mapping_mem (joined f g).body k (paired i j) t e) in
         let n = x.number in
         let b = first_low x.reaches x.by_first t x.first in
         let second : x.by-second ≡ i = omega arith in
@@ -141,21 +141,21 @@ module _ (f g : Translation) (sf : Sound f) (sg : Sound g) (h : join_fits f g �
 
     -- A clause of the join: that of the second, its code run through the first.
     record Composed (r p n : ℕ) (c : List ℕ) : Type 0 where
-      by-second : ℕ
+      by_second : ℕ
       by_first : ℕ
       reaches : ℕ
       target : ℕ
       arguments : List ℕ
       bytes : List ℕ
       entry : Mem (production r p arguments) g.source
-      whole : Mem (clause r p by-second bytes) g.body
-      second : Mem (mapping r by-second reaches) g.body
+      whole : Mem (clause r p by_second bytes) g.body
+      second : Mem (mapping r by_second reaches) g.body
       first : Mem (mapping reaches by_first target) f.body
-      number : n ≡ paired by-second by_first
-      written : c ≡ write code (run (clauses_of f) by_first (clauses_of g r p by-second))
+      number : n ≡ paired by_second by_first
+      written : c ≡ write code (run (clauses_of f) by_first (clauses_of g r p by_second))
 
-    composed-clause : (r p n : ℕ) (c : List ℕ) → Mem (clause r p n c) (joined f g).body → Composed r p n c
-    composed-clause r p n c m = let x = join_cases f g (clause r p n c) m in go x.0 x.1 x.2 x.3 x.4
+    composed_clause : (r p n : ℕ) (c : List ℕ) → Mem (clause r p n c) (joined f g).body → Composed r p n c
+    composed_clause r p n c m = let x = join_cases f g (clause r p n c) m in go x.0 x.1 x.2 x.3 x.4
       where
         go : (a : Item) (j : ℕ) → Mem a g.body → Mem j (numbers_of f.body (reached g a)) → clause r p n c ≡ paired_item f g a j → Composed r p n c
         go (mapping v i u) j a b e = mapping_clause (sym e)
@@ -166,7 +166,7 @@ module _ (f g : Translation) (sf : Sound f) (sg : Sound g) (h : join_fits f g �
             let x : mapped g.body s i ≡ u = mem_mapped g.body sg.rises s i u y.1.1 in
             let t = number_mem f.body u j (rw x at b) in
             record {
-              by-second = i;
+              by_second = i;
               by_first = j;
               reaches = u;
               target = t.0;
@@ -181,28 +181,28 @@ module _ (f g : Translation) (sf : Sound f) (sg : Sound g) (h : join_fits f g �
             }
 
     -- It is of a production of the second.
-    pub clause-source : (r p n : ℕ) (c : List ℕ) → Mem (clause r p n c) (joined f g).body → (ks : List ℕ) × Mem (production r p ks) g.source
-    clause-source r p n c m = let x = composed-clause r p n c m in (x.arguments, x.entry)
+    pub clause_source : (r p n : ℕ) (c : List ℕ) → Mem (clause r p n c) (joined f g).body → (ks : List ℕ) × Mem (production r p ks) g.source
+    clause_source r p n c m = let x = composed_clause r p n c m in (x.arguments, x.entry)
 
-    clause-joined : (r p i : ℕ) (d : List ℕ) (u j t : ℕ) → Mem (clause r p i d) g.body → Mem (mapping r i u) g.body → Mem (mapping u j t) f.body
+    clause_joined : (r p i : ℕ) (d : List ℕ) (u j t : ℕ) → Mem (clause r p i d) g.body → Mem (mapping r i u) g.body → Mem (mapping u j t) f.body
         → Mem (clause r p (paired i j) (write code (run (clauses_of f) j (clauses_of g r p i)))) (joined f g).body
-    clause-joined r p i d u j t m q n =
+    clause_joined r p i d u j t m q n =
         mem_join f g (clause r p i d) j m (rw (mem_mapped g.body sg.rises r i u q) (mem_number f.body u j t n))
 
     -- The uses that a code of the second keeps through the first.
-    kept-uses : (ks : List ℕ) → Kept (mapping_of f.body) (map (mapping_of g.body) ks) (map (mapping_of (joined f g).body) ks)
-    kept-uses ks zero i j k t e d = none_some e
-    kept-uses ks (suc a) i j k t e d =
+    kept_uses : (ks : List ℕ) → Kept (mapping_of f.body) (map (mapping_of g.body) ks) (map (mapping_of (joined f g).body) ks)
+    kept_uses ks zero i j k t e d = none_some e
+    kept_uses ks (suc a) i j k t e d =
         let q = use_kind (mapping_of g.body) ks a i k e in
-        kind_use (mapping_of (joined f g).body) ks a (paired i j) q.0 q.1 ∙ join-mapped q.0 i k j t q.2 d
+        kind_use (mapping_of (joined f g).body) ks a (paired i j) q.0 q.1 ∙ join_mapped q.0 i k j t q.2 d
 
     -- The joined code of a production.
-    join-typed : (r p i u j t : ℕ) (ks : List ℕ) → Mem (production r p ks) g.source → Mem (mapping r i u) g.body → Mem (mapping u j t) f.body
+    join_typed : (r p i u j t : ℕ) (ks : List ℕ) → Mem (production r p ks) g.source → Mem (mapping r i u) g.body → Mem (mapping u j t) f.body
         → Typed f.target (map (mapping_of (joined f g).body) ks) (run (clauses_of f) j (clauses_of g r p i)) t
-    join-typed r p i u j t ks m n o =
+    join_typed r p i u j t ks m n o =
         let e = mem_arguments g.source sg.source.rises r p ks m in
         let y = (fit_carries g sg.rises sg.fits).nodes r p i u ks e (mem_mapping g.body sg.rises r i u n) in
-        typed-run (fit_carries f sf.rises sf.fits) (kept-uses ks) j t (typed-larger target_larger y) (mem_mapping f.body sf.rises u j t o)
+        typed_run (fit_carries f sf.rises sf.fits) (kept_uses ks) j t (typed_larger target_larger y) (mem_mapping f.body sf.rises u j t o)
 
     pair_below : (s i u j t n : ℕ) → n ≡ paired i j → Mem (mapping s i u) g.body → Mem (mapping u j t) f.body → ltb n 256 ≡ true
     unfolding number_of
@@ -212,24 +212,24 @@ module _ (f g : Translation) (sf : Sound f) (sg : Sound g) (h : join_fits f g �
         lt-ltb n 256 (omega arith)
 
     -- A file can hold its items.
-    pub join-whole : (a : Item) → Mem a (joined f g).body → item_whole a ≡ true
+    pub join_whole : (a : Item) → Mem a (joined f g).body → item_whole a ≡ true
     unfolding item_whole
-    join-whole (mapping s n t) m =
-        let x = chained-mapping s n t m in
+    join_whole (mapping s n t) m =
+        let x = chained_mapping s n t m in
         let y = and_both (is_kind s) _ (sg.whole (mapping s x.by-second x.reaches) x.second) in
         let z = and_both (is_kind x.reaches) _ (sf.whole (mapping x.reaches x.by_first t) x.first) in
         let k = and_both (is_kind t) _ z.1 in
         both_and (is_kind s) _ y.0 (both_and (is_kind t) _ k.0 (pair_below s _ _ _ t n x.number x.second x.first))
-    join-whole (clause r p n c) m =
-        let x = composed-clause r p n c m in
+    join_whole (clause r p n c) m =
+        let x = composed_clause r p n c m in
         let y = and_both (is_kind r) _ (sg.whole (clause r p x.by-second x.bytes) x.whole) in
         both_and (is_kind r) _ y.0 (pair_below r _ _ _ _ n x.number x.second x.first)
 
     module _ (shallows : (a : Item) → Mem a (joined f g).body → code_is_deep (joined f g) a ≡ false) where
-      join-read : (r p n : ℕ) (c : List ℕ) (m : Mem (clause r p n c) (joined f g).body) (x : Composed r p n c)
+      join_read : (r p n : ℕ) (c : List ℕ) (m : Mem (clause r p n c) (joined f g).body) (x : Composed r p n c)
           → read_clause (joined f g) r p n c ≡ done (run (clauses_of f) x.by_first (clauses_of g r p x.by-second)) []
       unfolding read_clause code_is_deep joined mapped
-      join-read r p n c m x =
+      join_read r p n c m x =
           let a = run (clauses_of f) x.by_first (clauses_of g r p x.by-second) in
           let i = x.by-second in
           let j = x.by_first in
@@ -237,60 +237,60 @@ module _ (f g : Translation) (sf : Sound f) (sg : Sound g) (h : join_fits f g �
           let e = mem_arguments g.source sg.source.rises r p ks x.entry in
           let q : uses_of (joined f g) r p ≡ map (mapping_of (joined f g).body) ks = uses_are (joined f g) r p ks e in
           let y : mapping_of (joined f g).body r n ≡ some x.target = ap (mapping_of (joined f g).body r) x.number
-          ∙ join-mapped r i x.reaches j x.target (mem_mapping g.body sg.rises r i _ x.second) (mem_mapping f.body sf.rises _ j _ x.first) in
-          let typed = join-typed r p i x.reaches j x.target ks x.entry x.second x.first in
+          ∙ join_mapped r i x.reaches j x.target (mem_mapping g.body sg.rises r i _ x.second) (mem_mapping f.body sf.rises _ j _ x.first) in
+          let typed = join_typed r p i x.reaches j x.target ks x.entry x.second x.first in
           let big = round f.target (proper_apart f.target sf.target) typed as_code (code_levels + levels a) [] (omega arith) in
           shallow _ _
           (more_levels code f.target (uses_of (joined f g) r p) code_levels (code_levels + levels a) (mapped (joined f g).body r n) c (omega arith))
           (shallows (clause r p n c) m)
           (rw (x.written ∙ sym (append-nil (write code a)), q, y) big)
 
-      join-fits : Fitting (joined f g)
+      join_fits_lem : Fitting (joined f g)
       unfolding joined
-      join-fits = record {
+      join_fits_lem = record {
         maps = λ k e.
             let u = sg.fits.maps k e in
             let t = sf.fits.maps u.0 (lies_in_lem u.0 (sg.fits.maps_only k 0 u.0 u.1).1) in
-            (t.0, mapping-joined k 0 u.0 0 t.0 u.1 t.1);
+            (t.0, mapping_joined k 0 u.0 0 t.0 u.1 t.1);
         maps_only = λ s n t m.
-            let x = chained-mapping s n t m in
+            let x = chained_mapping s n t m in
             ((sg.fits.maps_only s _ _ x.second).0, (sf.fits.maps_only _ _ t x.first).1);
         classes = λ s n t b m e.
-            let x = chained-mapping s n t m in
+            let x = chained_mapping s n t m in
             let c = sg.fits.classes s _ _ b x.second e in
             let d = target_larger.classes x.reaches c.0 c.1 in
             let y = sf.fits.classes _ _ t d.0 x.first d.1 in
             (y.0, y.1, within_both b d.0 y.0 (within_both b c.0 d.0 c.2 d.2) y.2);
         clauses = λ r p n t ks m q.
-            let x = chained-mapping r n t q in
+            let x = chained_mapping r n t q in
             let c = sg.fits.clauses r p _ _ ks m x.second in
-            let y = clause-joined r p _ c.0 _ _ t c.1 x.second x.first in
+            let y = clause_joined r p _ c.0 _ _ t c.1 x.second x.first in
             let bytes = write code (run (clauses_of f) x.by_first (clauses_of g r p x.by-second)) in
             (bytes, subst (λ (z : ℕ). Mem (clause r p z bytes) (joined f g).body) (sym x.number) y);
         clauses_only = λ r p n c m.
-            let x = composed-clause r p n c m in
-            let y = mapping-joined r _ _ _ x.target x.second x.first in
+            let x = composed_clause r p n c m in
+            let y = mapping_joined r _ _ _ x.target x.second x.first in
             ((x.arguments, x.entry), (x.target, subst (λ (z : ℕ). Mem (mapping r z x.target) (joined f g).body) (sym x.number) y));
-        codes = λ r p n c m. (_, join-read r p n c m (composed-clause r p n c m));
+        codes = λ r p n c m. (_, join_read r p n c m (composed_clause r p n c m));
       }
 
       -- C.16.
-      pub sound-join : Sound (joined f g)
+      pub sound_join : Sound (joined f g)
       unfolding joined
-      sound-join = record { source = sg.source; target = sf.target; whole = join-whole; rises = body_rises; fits = join-fits }
+      sound_join = record { source = sg.source; target = sf.target; whole = join_whole; rises = body_rises; fits = join_fits_lem }
 
       -- Its clauses are those of the second run through the first.
-      pub join-clauses : (k p n t : ℕ) (ks : List ℕ) → arguments_of g.source k p ≡ some ks → mapping_of (joined f g).body k n ≡ some t
+      pub join_clauses : (k p n t : ℕ) (ks : List ℕ) → arguments_of g.source k p ≡ some ks → mapping_of (joined f g).body k n ≡ some t
           → chained (clauses_of f) (clauses_of g) k p n ≡ clauses_of (joined f g) k p n
       unfolding joined
-      join-clauses k p n t ks e q =
-          let c = join-fits.clauses k p n t ks (arguments_mem g.source k p ks e) (mapping_mem (joined f g).body k n t q) in
-          let x = composed-clause k p n c.0 c.1 in
+      join_clauses k p n t ks e q =
+          let c = join_fits_lem.clauses k p n t ks (arguments_mem g.source k p ks e) (mapping_mem (joined f g).body k n t q) in
+          let x = composed_clause k p n c.0 c.1 in
           let l = first_low x.reaches x.by_first x.target x.first in
           let i : n / 16 ≡ x.by-second = ap (λ (z : ℕ). z / 16) x.number ∙ pair_first x.by-second x.by_first l in
           let j : n % 16 ≡ x.by_first = ap (λ (z : ℕ). z % 16) x.number ∙ pair_second x.by-second x.by_first l in
           (λ z. run (clauses_of f) (j z) (clauses_of g k p (i z)))
-          ∙ sym (clause_code (joined f g) body_rises k p n c.0 _ c.1 (join-read k p n c.0 c.1 x))
+          ∙ sym (clause_code (joined f g) body_rises k p n c.0 _ c.1 (join_read k p n c.0 c.1 x))
 
       -- The codes of the first use by low numbers only.
       first_small : (k p j : ℕ) → Small (clauses_of f k p j)
@@ -300,9 +300,9 @@ module _ (f g : Translation) (sf : Sound f) (sg : Sound g) (h : join_fits f g �
           bytes : List ℕ
           bytes = get_or (clause_of f.body k p j) []
 
-          uses-low : (i n t : ℕ) → kind_at (uses_of f k p) i n ≡ some t → n < 16
-          uses-low zero n t e = none_some e
-          uses-low (suc i) n t e =
+          uses_low : (i n t : ℕ) → kind_at (uses_of f k p) i n ≡ some t → n < 16
+          uses_low zero n t e = none_some e
+          uses_low (suc i) n t e =
               let q = use_kind (mapping_of f.body) (get_or (arguments_of f.source k p) []) i n t e in
               first_low q.0 n t (mapping_mem f.body q.0 n t q.2)
 
@@ -310,18 +310,18 @@ module _ (f g : Translation) (sf : Sound f) (sg : Sound g) (h : join_fits f g �
           go none e = tt
           go (some a) e =
               let d = read_done code f.target (uses_of f k p) code_levels (mapped f.body k j) bytes a [] (whole_done (read_clause f k p j bytes) a e) in
-              typed-small uses-low d.0
+              typed_small uses_low d.0
 
       -- A code that uses by number 0 only, run through the join by two numbers paired, is run through the second and then the first.
-      pub join-codes : {uses : Uses} {a : Code} {k : ℕ} (i u j t : ℕ) → Typed g.source uses a k → ByZero a → mapping_of g.body k i ≡ some u → mapping_of f.body u j ≡ some t
+      pub join_codes : {uses : Uses} {a : Code} {k : ℕ} (i u j t : ℕ) → Typed g.source uses a k → ByZero a → mapping_of g.body k i ≡ some u → mapping_of f.body u j ≡ some t
           → run (clauses_of (joined f g)) (paired i j) a ≡ run (clauses_of f) j (run (clauses_of g) i a)
       unfolding joined
-      join-codes {a = a} {k = k} i u j t y z e d =
-          sym (run-alike (fit_carries (joined f g) body_rises join-fits) join-clauses (paired i j) t y (join-mapped k i u j t e d))
+      join_codes {a = a} {k = k} i u j t y z e d =
+          sym (run_alike (fit_carries (joined f g) body_rises join_fits_lem) join_clauses (paired i j) t y (join_mapped k i u j t e d))
           ∙ run_pair (clauses_of f) (clauses_of g) first_small a i j z (first_low u j t (mapping_mem f.body u j t d))
 
       -- So is a tree.
       pub join_runs : {a : Code} {k : ℕ} (i u j t : ℕ) → Typed g.source [] a k → mapping_of g.body k i ≡ some u → mapping_of f.body u j ≡ some t
           → transform (joined f g) (paired i j) a ≡ transform f j (transform g i a)
       unfolding transform
-      join_runs i u j t y e d = join-codes i u j t y (typed_tree y) e d
+      join_runs i u j t y e d = join_codes i u j t y (typed_tree y) e d

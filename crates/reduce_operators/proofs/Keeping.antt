@@ -64,23 +64,23 @@ module _ (b : List ℕ) (p tag : ℕ) (et : tag ≡ byte_at b p) (w : item_whole
 
   module _ (s index : List ℕ) (z : Indexed index s l) (bytes : (i : ℕ) → byte_at b i < 256) where
     -- the key of a clause, looked up
-    known-key : (t : ℕ) → byte_at b p ≡ t → eqb t 0x22 ≡ false → byte_at b (p + 3) < 32
+    known_key : (t : ℕ) → byte_at b p ≡ t → eqb t 0x22 ≡ false → byte_at b (p + 3) < 32
         → known_at 0x22 b index p ≡ is_some (arguments_of l (byte_at b (p + 3)) (byte_at b (p + 4)))
     unfolding known_at key_at pair_at
-    known-key t e n h =
+    known_key t e n h =
         let d : p + 3 + 1 ≡ p + 4 = omega arith in
         rw (e, n, d, z.arguments (get_or b (p + 3) 0) (get_or b (p + 4) 0) h (bytes (p + 4)))
         (there (arguments_before s) refl (λ q. refl) (get_or index (production_key (get_or b (p + 3) 0) (get_or b (p + 4) 0)) 0))
 
-    pub stays-clause : clause? ≡ true → (r : Bool) → r ≡ known_at 0x22 b index p → r ≡ is_of l (item_at b p)
+    pub stays_clause : clause? ≡ true → (r : Bool) → r ≡ known_at 0x22 b index p → r ≡ is_of l (item_at b p)
     unfolding is_of
-    stays-clause h r er = er ∙ go (item_facts b p w)
+    stays_clause h r er = er ∙ go (item_facts b p w)
       where
         go : ItemFacts b p → known_at 0x22 b index p ≡ is_of l (item_at b p)
         go (plain_mapping m) = false_true (sym (tag_clause 0x22 m.tag) ∙ h)
-        go (plain_clause m) = known-key 0x23 m.tag refl m.result ∙ sym (ap (is_of l) (clause_is b p m))
+        go (plain_clause m) = known_key 0x23 m.tag refl m.result ∙ sym (ap (is_of l) (clause_is b p m))
         go (numbered_mapping_lem m) = false_true (sym (tag_clause 0x28 m.tag) ∙ h)
-        go (numbered_clause_lem m) = known-key 0x29 m.tag refl m.result ∙ sym (ap (is_of l) (numbered_clause_is b p m))
+        go (numbered_clause_lem m) = known_key 0x29 m.tag refl m.result ∙ sym (ap (is_of l) (numbered_clause_is b p m))
 
 -- A walk that writes for each field.
 module _ (piece : ℕ → List ℕ) (s : List ℕ) (p : ℕ) where
@@ -194,14 +194,14 @@ module _ (s t b : List ℕ) (f : Translation) (m : Language) (w : Left s t b f m
 
   -- keep_parts
   module _ (d d' : List ℕ) (r : Stored) (k : Stores (written_from (staying_at (language_without f.source m) b) b 0) d d' 0 r) where
-    pub kept-too-long : (o : List ℕ) → r ≡ Full → length d ≡ 4096 → Gives (translation_bytes (value (translation_without f m))) o o (Refused ValueTooLarge)
-    kept-too-long o e n = gives_refused _ o o ValueTooLarge (body_over (translation_without f m) (omega (arith, k.full e, ap length kept_is))) refl
+    pub kept_too_long : (o : List ℕ) → r ≡ Full → length d ≡ 4096 → Gives (translation_bytes (value (translation_without f m))) o o (Refused ValueTooLarge)
+    kept_too_long o e n = gives_refused _ o o ValueTooLarge (body_over (translation_without f m) (omega (arith, k.full e, ap length kept_is))) refl
 
-    pub kept-given : (n : ℕ) → r ≡ To n → (o o' : List ℕ) (x : Outcome)
+    pub kept_given : (n : ℕ) → r ≡ To n → (o o' : List ℕ) (x : Outcome)
         → Gives (refuse_if (ltb 4096 (length (assembled s t (take n d')))) ValueTooLarge (value (assembled s t (take n d')))) o o' x
         → Gives (translation_bytes (value (translation_without f m))) o o' x
     unfolding translation_without
-    kept-given n e o o' x g =
+    kept_given n e o o' x g =
         let short : length (encode_language (language_without f.source m)) ≤ 1024 = omega (arith, w.short, ap length w.source) in
         assembled_given (translation_without f m) (sound_without f m left_good.sound) short left_good.target_short s t (take n d') o o' x
         w.source w.target (stored_first _ d d' n r k e ∙ kept_is) g

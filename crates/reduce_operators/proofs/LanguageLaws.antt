@@ -55,12 +55,12 @@ module _ (a b : List ℕ) (l m : Language) (e : exact_language a ≡ value l) (d
       gives_refused (language_bytes (language_sum l m)) o o SumUnfit (rw z refl) refl
 
   module _ (o o' : List ℕ) (long : length o' ≡ length o) (room : 1024 ≤ length o) (x : Stored) (r : Outcome) (answer : r ≡ limited 1024 x) where
-    pub sum-given : (fit : Bool) → fit ≡ fit_together a b → fit ≡ true → Stores (united 0x11 a b) o o' 0 x
+    pub sum_given : (fit : Bool) → fit ≡ fit_together a b → fit ≡ true → Stores (united 0x11 a b) o o' 0 x
         → Gives (language_bytes (language_sum l m)) o o' r
     unfolding language_sum
-    sum-given fit q t w =
+    sum_given fit q t w =
         let z : languages_fit l m ≡ true = sym fit_is ∙ (sym q ∙ t) in
         rw z (language_copied o o' long x r (language_union l m) (united 0x11 a b) union_is room w answer)
 
-    pub without-given : Stores (removed 0x11 a b) o o' 0 x → Gives (language_bytes (value (language_without l m))) o o' r
-    without-given w = language_copied o o' long x r (language_without l m) (removed 0x11 a b) removed_is room w answer
+    pub without_given : Stores (removed 0x11 a b) o o' 0 x → Gives (language_bytes (value (language_without l m))) o o' r
+    without_given w = language_copied o o' long x r (language_without l m) (removed 0x11 a b) removed_is room w answer

@@ -57,16 +57,16 @@ module _ (s t x : List ℕ) (l m : Language) (b : Body) (es : exact_language s �
   made_rises h = rw ((exact_good s l es).rises, (exact_good t m et).rises, h)
 
   module _ (o : Outcome) (eo : o ≡ checked (well_formed (made_of l m b))) where
-    pub make-refused : (r : Reason) → o ≡ Refused r → (out : List ℕ) → Gives (translation_bytes (well_formed (made_of l m b))) out out (Refused r)
-    make-refused r h out =
+    pub make_refused : (r : Reason) → o ≡ Refused r → (out : List ℕ) → Gives (translation_bytes (well_formed (made_of l m b))) out out (Refused r)
+    make_refused r h out =
         let z : well_formed (made_of l m b) ≡ refused r = refused_is (well_formed (made_of l m b)) r (sym eo ∙ h) in
         gives_refused _ out out r (rw z refl) refl
 
-    pub make-given : rising item_key b ≡ true → ((i : ℕ) → byte_at x i < 256)
+    pub make_given : rising item_key b ≡ true → ((i : ℕ) → byte_at x i < 256)
         → (n : ℕ) → o ≡ Accepted n → (out out' : List ℕ) (r : Outcome)
         → Gives (refuse_if (ltb 4096 (length (assembled s t x))) ValueTooLarge (value (assembled s t x))) out out' r
         → Gives (translation_bytes (well_formed (made_of l m b))) out out' r
-    make-given rises bx n h out out' r g =
+    make_given rises bx n h out out' r g =
         let f = made_of l m b in
         let y = exact_good s l es in
         let z = exact_good t m et in

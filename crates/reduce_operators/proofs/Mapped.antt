@@ -30,10 +30,10 @@ module _ {A B : Type 0} (g : A → B) where
   keep_mapped f h e (a ∷ l) = rw (e a, keep_mapped f h e l) (map_cond (h a) a (keep h l))
 
   module _ (key : B → ℕ) (mine : A → ℕ) (keys : (a : A) → key (g a) ≡ mine a) where
-    insert-mapped : (x : A) (l : List A) → insert key (g x) (map g l) ≡ map g (insert mine x l)
+    insert_mapped : (x : A) (l : List A) → insert key (g x) (map g l) ≡ map g (insert mine x l)
     unfolding insert
-    insert-mapped x [] = refl
-    insert-mapped x (y ∷ l) = rw (keys x, keys y) (go (insert-mapped x l) (order (mine x) (mine y)))
+    insert_mapped x [] = refl
+    insert_mapped x (y ∷ l) = rw (keys x, keys y) (go (insert_mapped x l) (order (mine x) (mine y)))
       where
         go : insert key (g x) (map g l) ≡ map g (insert mine x l) → (o : Order)
             → place key (g x) (g y) (map g l) (insert key (g x) (map g l)) o ≡ map g (place mine x y l (insert mine x l) o)
@@ -41,24 +41,24 @@ module _ {A B : Type 0} (g : A → B) where
         go e same = refl
         go e above = ap (λ (r : List B). g y ∷ r) e
 
-    pub union-mapped : (l m : List A) → union key (map g l) (map g m) ≡ map g (union mine l m)
+    pub union_mapped : (l m : List A) → union key (map g l) (map g m) ≡ map g (union mine l m)
     unfolding union
-    union-mapped [] m = refl
-    union-mapped (x ∷ l) m = ap (insert key (g x)) (union-mapped l m) ∙ insert-mapped x (union mine l m)
+    union_mapped [] m = refl
+    union_mapped (x ∷ l) m = ap (insert key (g x)) (union_mapped l m) ∙ insert_mapped x (union mine l m)
 
   module _ (alike : B → B → Bool) (equal : A → A → Bool) (tells : (a b : A) → alike (g a) (g b) ≡ equal a b) where
-    holds-mapped : (m : List A) (a : A) → holds alike (map g m) (g a) ≡ holds equal m a
+    holds_mapped : (m : List A) (a : A) → holds alike (map g m) (g a) ≡ holds equal m a
     unfolding holds
-    holds-mapped m a = any_mapped (alike (g a)) (equal a) (tells a) m
+    holds_mapped m a = any_mapped (alike (g a)) (equal a) (tells a) m
 
-    pub without-mapped : (l m : List A) → without alike (map g l) (map g m) ≡ map g (without equal l m)
+    pub without_mapped : (l m : List A) → without alike (map g l) (map g m) ≡ map g (without equal l m)
     unfolding without
-    without-mapped l m = keep_mapped (λ b. not (holds alike (map g m) b)) (λ a. not (holds equal m a)) (λ a. ap not (holds-mapped m a)) l
+    without_mapped l m = keep_mapped (λ b. not (holds alike (map g m) b)) (λ a. not (holds equal m a)) (λ a. ap not (holds_mapped m a)) l
 
-    pub agree-mapped : (key : B → ℕ) (mine : A → ℕ) → ((a : A) → key (g a) ≡ mine a) → (l m : List A)
+    pub agree_mapped : (key : B → ℕ) (mine : A → ℕ) → ((a : A) → key (g a) ≡ mine a) → (l m : List A)
         → agree key alike (map g l) (map g m) ≡ agree mine equal l m
     unfolding agree
-    agree-mapped key mine keys l m =
+    agree_mapped key mine keys l m =
         all_mapped _ _ (λ a. all_mapped _ _ (λ b. rw (keys a, keys b, tells a b)) m) l
 
   -- The same where they are alike on the members.

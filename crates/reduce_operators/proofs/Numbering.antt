@@ -55,29 +55,29 @@ module _ (test : Item → Bool) (clauses : (r p j : ℕ) (c : List ℕ) → test
   passing_start s b e = ap (all test) (holds_items s b e).items
 
   module _ (s : List ℕ) (p : ℕ) (b : Body) (h : Passing s p b) where
-    pub passing-end : length s ≤ p → true ≡ all test b
+    pub passing_end : length s ≤ p → true ≡ all test b
     unfolding all
-    passing-end l = ap (λ (x : List ℕ). all test (map (item_at s) x)) (sym (places_done s p l)) ∙ h
+    passing_end l = ap (λ (x : List ℕ). all test (map (item_at s) x)) (sym (places_done s p l)) ∙ h
 
     module _ (here : p < length s) where
       next : all test (item_at s p ∷ map (item_at s) (places_from s (field_end s p))) ≡ all test b
       next = ap (λ (x : List ℕ). all test (map (item_at s) x)) (sym (places_next s p here)) ∙ h
 
-      pub passing-clause : Front s p → is_clause_tag (get_or s p 0) ≡ true → true ≡ all test b
+      pub passing_clause : Front s p → is_clause_tag (get_or s p 0) ≡ true → true ≡ all test b
       unfolding items_whole
-      passing-clause w t =
+      passing_clause w t =
           let l = places_from s (field_end s p) in
           let z : items_whole s false (p ∷ l) ≡ true = ap (items_whole s false) (sym (places_next s p here)) ∙ w in
           let y : items_whole s true (p ∷ l) ≡ true = rw t (rw t at z) in
           sym (clauses_pass s (p ∷ l) y) ∙ next
 
-      pub passing-fails : test (item_at s p) ≡ false → false ≡ all test b
+      pub passing_fails : test (item_at s p) ≡ false → false ≡ all test b
       unfolding all
-      passing-fails t = rw t at next
+      passing_fails t = rw t at next
 
-      pub passing-next : test (item_at s p) ≡ true → (e : ℕ) → e ≡ field_end s p → Passing s e b
+      pub passing_next : test (item_at s p) ≡ true → (e : ℕ) → e ≡ field_end s p → Passing s e b
       unfolding all
-      passing-next t e ee = rw ee (rw t at next)
+      passing_next t e ee = rw ee (rw t at next)
 
 -- numbers_below
 pub below_clauses : (limit r p j : ℕ) (c : List ℕ) → mapping_below limit (clause r p j c) ≡ true

@@ -21,7 +21,7 @@ use Rattle.format_translation.specs.Translation.{Item, Translation, item_key}
 use Rattle.format_translation.specs.TranslationFile.{encode_translation, translation_limit, all_rising, translation_of}
 use Rattle.format_translation.specs.WellFormed.{well_formed}
 use Rattle.format_translation.proofs.Codec.{item_whole, WholeTranslation, translation_back}
-use Rattle.format_translation.proofs.Fitting.{Fitting, KindsBelow, fit-tests, formed_fits}
+use Rattle.format_translation.proofs.Fitting.{Fitting, KindsBelow, fit_tests, formed_fits}
 
 -- A language whose entries a file can hold, rising, no class a result.
 pub record Proper (l : Language) : Type 0 where
@@ -122,4 +122,4 @@ good_whole f g = record {
 pub good_back : (f : Translation) → GoodTranslation f → translation_of (encode_translation f) ≡ value f
 good_back f g =
     translation_back f (good_whole f g)
-    ∙ fit-tests f (kinds_below f g.sound.source) g.sound.rises g.sound.source.rises g.sound.fits
+    ∙ fit_tests f (kinds_below f g.sound.source) g.sound.rises g.sound.source.rises g.sound.fits

@@ -34,13 +34,13 @@ module _ (s : List ℕ) (p tag : ℕ) (et : tag ≡ byte_at s p) where
   spare_other h = cc (ne_eqb tag 0x11 h)
 
   module _ (class : tag ≡ 0x11) (size : ℕ) (es : size ≡ pair_at s (p + 1)) where
-    pub spare-short : (size ≡ 7 → ⊥) → false ≡ spare_step s p
+    pub spare_short : (size ≡ 7 → ⊥) → false ≡ spare_step s p
     unfolding spare_step
-    spare-short h = cc (eq-eqb tag 0x11 class, ne_eqb size 7 h)
+    spare_short h = cc (eq-eqb tag 0x11 class, ne_eqb size 7 h)
 
-    pub spare-long : size ≡ 7 → (step : ℕ) → step ≡ pair_at s (p + 8) → eqb step 1 ≡ spare_step s p
+    pub spare_long : size ≡ 7 → (step : ℕ) → step ≡ pair_at s (p + 8) → eqb step 1 ≡ spare_step s p
     unfolding spare_step
-    spare-long h step e = cc (eq-eqb tag 0x11 class, eq-eqb size 7 h)
+    spare_long h step e = cc (eq-eqb tag 0x11 class, eq-eqb size 7 h)
 
 -- put_entry
 module _ (s : List ℕ) (p : ℕ) (w : entry_whole s p ≡ true) where
@@ -61,21 +61,21 @@ module _ (s : List ℕ) (p : ℕ) (w : entry_whole s p ≡ true) where
       omega (arith, eqb-true (size_at s p) 7 b.0, entry_fits)
 
   module _ (bytes : (i : ℕ) → byte_at s i < 256) where
-    entry-of : entry_of (field (byte_at s p) (contents_at s p)) ≡ some (entry_at s p)
+    entry_of_lem : entry_of (field (byte_at s p) (contents_at s p)) ≡ some (entry_at s p)
     unfolding field_at
-    entry-of = let e = Held.entry_here s p whole_here.0 in rw whole_here.1 at e
+    entry_of_lem = let e = Held.entry_here s p whole_here.0 in rw whole_here.1 at e
 
-    contents-bytes : Bytes (contents_at s p)
-    contents-bytes =
+    contents_bytes : Bytes (contents_at s p)
+    contents_bytes =
         let a : Bytes s = bytes_from s (λ i l. bytes i) in
         let b = (each_front (λ x. x < 256) (take (p + 3) s) (drop (p + 3) s) (rw (take-append-drop (p + 3) s) a)).1 in
         let r = drop (p + 3) s in
         let n = pair_at s (p + 1) in
         (each_front (λ x. x < 256) (take n r) (drop n r) (rw (take-append-drop n r) b)).0
 
-    spare-same : spare (byte_at s p) (contents_at s p) ≡ spare_step s p
+    spare_same : spare (byte_at s p) (contents_at s p) ≡ spare_step s p
     unfolding spare_step
-    spare-same =
+    spare_same =
         let l = contents_length s p whole_here.0 in
         by_test (eqb (size_at s p) 7)
         (λ e.
@@ -102,30 +102,30 @@ module _ (s : List ℕ) (p : ℕ) (w : entry_whole s p ≡ true) where
         slice_is s p (p + 3 + n) (omega arith) f ∙ (rw (m, d, e, h, k) refl)
 
     module _ (o o' : List ℕ) (n : ℕ) (x : Stored) where
-      pub entry-stored : spare_step s p ≡ false → (e : ℕ) → e ≡ field_end s p → Stores (slice p e s) o o' n x → Stores (entry_bytes s p) o o' n x
+      pub entry_stored : spare_step s p ≡ false → (e : ℕ) → e ≡ field_end s p → Stores (slice p e s) o o' n x → Stores (entry_bytes s p) o o' n x
       unfolding entry_bytes
-      entry-stored h e ee k =
-          let z = piece_is ∙ ap encode_field (sym (entry_kept (byte_at s p) (contents_at s p) (entry_at s p) entry-of contents-bytes (spare-same ∙ h))) in
+      entry_stored h e ee k =
+          let z = piece_is ∙ ap encode_field (sym (entry_kept (byte_at s p) (contents_at s p) (entry_at s p) entry_of_lem contents_bytes (spare_same ∙ h))) in
           subst (λ (v : List ℕ). Stores v o o' n x) (ap (λ (i : ℕ). slice p i s) ee ∙ z) k
 
-      pub spare-stored : spare_step s p ≡ true → Stores (slice 0 3 (0x11 ∷ 0 ∷ 5 ∷ []) ++ slice (p + 3) (p + 8) s) o o' n x → Stores (entry_bytes s p) o o' n x
+      pub spare_stored : spare_step s p ≡ true → Stores (slice 0 3 (0x11 ∷ 0 ∷ 5 ∷ []) ++ slice (p + 3) (p + 8) s) o o' n x → Stores (entry_bytes s p) o o' n x
       unfolding entry_bytes encode_field
-      spare-stored h k =
+      spare_stored h k =
           let f = spare_fits h in
           let c = contents_at s p in
-          let a = and_both (eqb (byte_at s p) 0x11) (eqb (length c) 7 && eqb (pair_at c 5) 1) (spare-same ∙ h) in
+          let a = and_both (eqb (byte_at s p) 0x11) (eqb (length c) 7 && eqb (pair_at c 5) 1) (spare_same ∙ h) in
           let b = and_both (eqb (length c) 7) (eqb (pair_at c 5) 1) a.1 in
           let seven : length c ≡ 7 = eqb-true (length c) 7 b.0 in
           let five : length (take 5 c) ≡ 5 = length-take-le 5 c (omega (arith, seven)) in
           let size : pair_at s (p + 1) ≡ 7 = sym (contents_length s p whole_here.0) ∙ seven in
           let q : p + 3 + 5 ≡ p + 8 = omega arith in
-          let t : take 5 c ≡ slice (p + 3) (p + 8) s = rw size (five-of (drop (p + 3) s)) ∙ (part_is s (p + 3) 5 (omega arith) ∙ ap (λ (i : ℕ). slice (p + 3) i s) q) in
+          let t : take 5 c ≡ slice (p + 3) (p + 8) s = rw size (five_of (drop (p + 3) s)) ∙ (part_is s (p + 3) 5 (omega arith) ∙ ap (λ (i : ℕ). slice (p + 3) i s) q) in
           let z : encode_field (field 0x11 (take 5 c)) ≡ 0x11 ∷ 0 ∷ 5 ∷ take 5 c = rw five refl in
-          let y : 0x11 ∷ 0 ∷ 5 ∷ slice (p + 3) (p + 8) s ≡ encode_field (entry_field (entry_at s p)) = sym (ap encode_field (entry_spare (byte_at s p) c (entry_at s p) entry-of contents-bytes (spare-same ∙ h)) ∙ (z ∙ ap (λ (r : List ℕ). 0x11 ∷ 0 ∷ 5 ∷ r) t)) in
+          let y : 0x11 ∷ 0 ∷ 5 ∷ slice (p + 3) (p + 8) s ≡ encode_field (entry_field (entry_at s p)) = sym (ap encode_field (entry_spare (byte_at s p) c (entry_at s p) entry_of_lem contents_bytes (spare_same ∙ h)) ∙ (z ∙ ap (λ (r : List ℕ). 0x11 ∷ 0 ∷ 5 ∷ r) t)) in
           subst (λ (v : List ℕ). Stores v o o' n x) y k
         where
-          five-of : (l : List ℕ) → take 5 (take 7 l) ≡ take 5 l
-          five-of l = take-take 5 7 l (omega arith)
+          five_of : (l : List ℕ) → take 5 (take 7 l) ≡ take 5 l
+          five_of l = take-take 5 7 l (omega arith)
 
 -- put_entries
 entries_bytes : (s ps : List ℕ) → concat_map (entry_bytes s) ps ≡ encode_fields (map entry_field (map (entry_at s) ps))

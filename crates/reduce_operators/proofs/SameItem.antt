@@ -106,26 +106,26 @@ module _ (s : List ℕ) (p tag : ℕ) (et : tag ≡ byte_at s p) where
       subst (λ (v : List ℕ). Stores v o o n (To n)) y (put_unwanted false [] o n refl room)
 
   module _ (other : tag ≡ 0x11 → ⊥) (w : entry_whole s p ≡ true) where
-    production-there : IsProduction s p
-    production-there = ⊎_elim (λ c. absurd (other (et ∙ c.tag))) (λ c. c) (entry_facts s p w)
+    production_there : IsProduction s p
+    production_there = ⊎_elim (λ c. absurd (other (et ∙ c.tag))) (λ c. c) (entry_facts s p w)
 
-    pub production-size : (e : ℕ) → e ≡ field_end s p → (p + 5 ≤ e) × (e ≤ p + 13) × (e ≤ length s)
+    pub production_size : (e : ℕ) → e ≡ field_end s p → (p + 5 ≤ e) × (e ≤ p + 13) × (e ≤ length s)
     unfolding field_end
-    production-size e ee =
-        let c = production-there in
+    production_size e ee =
+        let c = production_there in
         let i = c.two in
         let j = c.ten in
         let k = c.fits in
         (omega arith, omega arith, omega arith)
 
-    pub production-stored : (e : ℕ) → e ≡ field_end s p → (x r q : ℕ) → x ≡ 2 * (e - p - 5) → r ≡ byte_at s (p + 3) → q ≡ byte_at s (p + 4)
+    pub production_stored : (e : ℕ) → e ≡ field_end s p → (x r q : ℕ) → x ≡ 2 * (e - p - 5) → r ≡ byte_at s (p + 3) → q ≡ byte_at s (p + 4)
         → (o o' : List ℕ) (n : ℕ) (y : Stored) → Stores (same_item x r q) o o' n y → Stores (clause_item s p) o o' n y
     unfolding clause_item
-    production-stored e ee x r q ex er eq o o' n y k =
-        let b = production-size e ee in
+    production_stored e ee x r q ex er eq o o' n y k =
+        let b = production_size e ee in
         let ks = slice (p + 5) e s in
         let m : length ks ≡ e - (p + 5) = length-slice (p + 5) e s b.2 in
-        let z : entry_at s p ≡ production r q ks = production_is s p production-there ∙ rw (← er, ← eq, ee) refl in
+        let z : entry_at s p ≡ production r q ks = production_is s p production_there ∙ rw (← er, ← eq, ee) refl in
         let h : length ks ≤ 8 = omega (arith, m, b.0, b.1) in
         let d : x ≡ 2 * length ks = omega (arith, m, ex, b.0) in
         subst (λ (v : List ℕ). Stores v o o' n y) (same_item_lem r q x ks h d ∙ sym (ap (λ (a : Entry). encode_fields (map item_field (identity_clause a))) z)) k
@@ -179,18 +179,18 @@ module _ (s : List ℕ) (l : Language) (e : exact_language s ≡ value l) where
   -- the clauses behind the mappings
   module _ (d d₁ d₂ : List ℕ) (n : length d ≡ 4096) (long : length d₁ ≡ length d) (i : ℕ) (x : Stored) (w : Stores (kind_items l 0) d d₁ 0 x) (ex : x ≡ To i)
       (z : Stored) (u : Stores (written_from (clause_item s) s 0) d₁ d₂ i z) where
-    pub same-stored : Stores (kind_items l 0 ++ written_from (clause_item s) s 0) d d₂ 0 z
-    same-stored = both_then (kind_items l 0) (written_from (clause_item s) s 0) d d₁ 0 x w i ex d₂ z long u
+    pub same_stored : Stores (kind_items l 0 ++ written_from (clause_item s) s 0) d d₂ 0 z
+    same_stored = both_then (kind_items l 0) (written_from (clause_item s) s 0) d d₁ 0 x w i ex d₂ z long u
 
-    pub clauses-over : (o : List ℕ) → z ≡ Full → Gives (translation_bytes (value (identity_of l))) o o (Refused ValueTooLarge)
-    clauses-over o f = identity_over o (omega (arith, same-stored.full f))
+    pub clauses_over : (o : List ℕ) → z ≡ Full → Gives (translation_bytes (value (identity_of l))) o o (Refused ValueTooLarge)
+    clauses_over o f = identity_over o (omega (arith, same_stored.full f))
 
-    pub identity-given : (k : ℕ) → z ≡ To k → (o o' : List ℕ) (r : Outcome)
+    pub identity_given : (k : ℕ) → z ≡ To k → (o o' : List ℕ) (r : Outcome)
         → Gives (refuse_if (ltb 4096 (length (assembled s s (take k d₂)))) ValueTooLarge (value (assembled s s (take k d₂)))) o o' r
         → Gives (translation_bytes (value (identity_of l))) o o' r
     unfolding identity_of
-    identity-given k ez o o' r g =
+    identity_given k ez o o' r g =
         let h = exact_good s l e in
         assembled_given (identity_of l) (sound_identity l (good_proper l h)) h.short h.short s s (take k d₂) o o' r
         (language_written s l e) (language_written s l e)
-        (stored_first _ d d₂ k z same-stored ez ∙ same_bytes s l (language_entries s l e)) g
+        (stored_first _ d d₂ k z same_stored ez ∙ same_bytes s l (language_entries s l e)) g

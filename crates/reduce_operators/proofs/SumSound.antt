@@ -8,7 +8,7 @@ use mathlib.Core.List.{List, []}
 use Rattle.format_fields.specs.Lists.{all, is_some}
 use Rattle.format_fields.specs.Keyed.{union, agree, without}
 use Rattle.format_fields.proofs.Truth.{Mem, by_test, none_some, and_both, not_true, all_mem, mem_all, some_is, is_some_lem, keep_cases, mem_keep}
-use Rattle.format_fields.proofs.Keyed.{Rising, Agree, agree_sym, union_cases, union_mem, union_from, agree-holds, holds_agree, keep_from}
+use Rattle.format_fields.proofs.Keyed.{Rising, Agree, agree_sym, union_cases, union_mem, union_from, agree_holds, holds_agree, keep_from}
 use Rattle.format_language.specs.Language.{Entry, class, production, Language, entry_key, same_entry, Range, is_in, arguments_of, clashes}
 use Rattle.format_language.proofs.Lookup.{same_equal, equal_same, in_larger, in_union, class_in, result_in, argument_in, range_mem, mem_range, arguments_mem, mem_arguments, NoClash, clashes_none, none_clashes}
 use Rattle.format_language.proofs.Ranges.{within_both}
@@ -34,7 +34,7 @@ fit_languages l m e =
     let a = and_both (not (clashes l m)) (not (clashes m l) && agree entry_key same_entry l m) e in
     let b = and_both (not (clashes m l)) (agree entry_key same_entry l m) a.1 in
     record {
-      agrees = agree-holds same_entry same_equal equal_same entry_key l m b.1;
+      agrees = agree_holds same_entry same_equal equal_same entry_key l m b.1;
       left = clashes_none l m (not_true (clashes l m) a.0);
       right = clashes_none m l (not_true (clashes m l) b.0);
     }
@@ -164,7 +164,7 @@ fit_translations f g e =
       target = fit_languages f.target g.target b.0;
       left = kept_numbers f g d.0;
       right = kept_numbers g f d.1;
-      body = agree-holds same_item Items.same_equal Items.equal_same item_key f.body g.body c.1;
+      body = agree_holds same_item Items.same_equal Items.equal_same item_key f.body g.body c.1;
     }
 
 pub translations_fit_lem : (f g : Translation) → TranslationsFit f g → translations_fit f g ≡ true

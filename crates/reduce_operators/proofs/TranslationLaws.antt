@@ -119,12 +119,12 @@ module _ (s t x u v y : List ℕ) (f g : Translation) (p : EncodedParts s t x f)
 
   -- parts_fit
   module _ (a : Bool) (ea : a ≡ fit_together s u) where
-    pub sources-unfit : a ≡ false → false ≡ translations_fit f g
-    sources-unfit h = cc fit_is
+    pub sources_unfit : a ≡ false → false ≡ translations_fit f g
+    sources_unfit h = cc fit_is
 
     module _ (ha : a ≡ true) (b : Bool) (eb : b ≡ fit_together t v) where
-      pub targets-unfit : b ≡ false → false ≡ translations_fit f g
-      targets-unfit h = cc fit_is
+      pub targets_unfit : b ≡ false → false ≡ translations_fit f g
+      targets_unfit h = cc fit_is
 
       module _ (hb : b ≡ true) (n : Bool) (en : n ≡ numbers_agree f g) where
         pub numbers_unfit : n ≡ false → false ≡ translations_fit f g
@@ -148,14 +148,14 @@ module _ (s t x u v y : List ℕ) (f g : Translation) (p : EncodedParts s t x f)
 
   -- a part of the union did not fit into n bytes
   module _ (o d d' : List ℕ) (r : Stored) (full : r ≡ Full) where
-    pub source-too-long : length d ≡ 1024 → Stores (united 0x11 s u) d d' 0 r → Gives (translation_bytes (value (translation_union f g))) o o (Refused ValueTooLarge)
-    source-too-long n w = gives_refused _ o o ValueTooLarge (source_over (translation_union f g) (omega (arith, w.full full, ap length source_is))) refl
+    pub source_too_long : length d ≡ 1024 → Stores (united 0x11 s u) d d' 0 r → Gives (translation_bytes (value (translation_union f g))) o o (Refused ValueTooLarge)
+    source_too_long n w = gives_refused _ o o ValueTooLarge (source_over (translation_union f g) (omega (arith, w.full full, ap length source_is))) refl
 
-    pub target-too-long : length d ≡ 1024 → Stores (united 0x11 t v) d d' 0 r → Gives (translation_bytes (value (translation_union f g))) o o (Refused ValueTooLarge)
-    target-too-long n w = gives_refused _ o o ValueTooLarge (target_over (translation_union f g) (omega (arith, w.full full, ap length target_is))) refl
+    pub target_too_long : length d ≡ 1024 → Stores (united 0x11 t v) d d' 0 r → Gives (translation_bytes (value (translation_union f g))) o o (Refused ValueTooLarge)
+    target_too_long n w = gives_refused _ o o ValueTooLarge (target_over (translation_union f g) (omega (arith, w.full full, ap length target_is))) refl
 
-    pub body-too-long : length d ≡ 4096 → Stores (united 0x22 x y) d d' 0 r → Gives (translation_bytes (value (translation_union f g))) o o (Refused ValueTooLarge)
-    body-too-long n w = gives_refused _ o o ValueTooLarge (body_over (translation_union f g) (omega (arith, w.full full, ap length body_is))) refl
+    pub body_too_long : length d ≡ 4096 → Stores (united 0x22 x y) d d' 0 r → Gives (translation_bytes (value (translation_union f g))) o o (Refused ValueTooLarge)
+    body_too_long n w = gives_refused _ o o ValueTooLarge (body_over (translation_union f g) (omega (arith, w.full full, ap length body_is))) refl
 
   -- the union of the parts, put together
   pub united_given : translations_fit f g ≡ true
@@ -194,12 +194,12 @@ module _ (s t x b : List ℕ) (f : Translation) (m : Language) (p : EncodedParts
       ∙ (ap (removed 0x11 (encode_language f.source)) (language_written b m e) ∙ removed_language f.source m)
 
   module _ (d d' : List ℕ) (r : Stored) (n : length d ≡ 1024) (w : Stores (removed 0x11 s b) d d' 0 r) where
-    pub left-too-long : (o : List ℕ) → r ≡ Full → Gives (translation_bytes (value (translation_without f m))) o o (Refused ValueTooLarge)
+    pub left_too_long : (o : List ℕ) → r ≡ Full → Gives (translation_bytes (value (translation_without f m))) o o (Refused ValueTooLarge)
     unfolding translation_without
-    left-too-long o full = gives_refused _ o o ValueTooLarge (source_over (translation_without f m) (omega (arith, w.full full, ap length left_is))) refl
+    left_too_long o full = gives_refused _ o o ValueTooLarge (source_over (translation_without f m) (omega (arith, w.full full, ap length left_is))) refl
 
-    pub left-spelt : (i : ℕ) → r ≡ To i → length d' ≡ length d → Left (take i d') t x f m
-    left-spelt i q l = record {
+    pub left_spelt : (i : ℕ) → r ≡ To i → length d' ≡ length d → Left (take i d') t x f m
+    left_spelt i q l = record {
       source = stored_first _ d d' i r w q ∙ left_is;
       target = p.target;
       body = p.body;

@@ -45,8 +45,8 @@ module _ (piece : ℕ → List ℕ) (a o : List ℕ) (from : ℕ) where
   module _ (out : List ℕ) (p n : ℕ) (h : Walked piece a o out from p n) where
     -- what there is for the entry at p is written, or it did not fit
     module _ (here : p < length a) (e : ℕ) (ee : e ≡ field_end a p) (out' : List ℕ) (x : Stored) (w : Stores (piece p) out out' n x) where
-      pub walked-full : x ≡ Full → Stores (written_from piece a 0) o out' from Full
-      walked-full f =
+      pub walked_full : x ≡ Full → Stores (written_from piece a 0) o out' from Full
+      walked_full f =
           h.rest out' Full (subst (λ (v : List ℕ). Stores v out out' n Full) (sym (walk_next piece a p here e ee))
           (both_full (piece p) (written_from piece a e) out out' n x w f))
 
@@ -61,8 +61,8 @@ module _ (piece : ℕ → List ℕ) (a o : List ℕ) (from : ℕ) where
       }
 
     -- no entry is left
-    pub walked-done : length a ≤ p → Stores (written_from piece a 0) o out from (To n)
-    walked-done past =
+    pub walked_done : length a ≤ p → Stores (written_from piece a 0) o out from (To n)
+    walked_done past =
         h.rest out (To n) (subst (λ (v : List ℕ). Stores v out out n (To n)) (sym (walk_done piece a p past))
         (put_unwanted false [] out n refl h.room))
 

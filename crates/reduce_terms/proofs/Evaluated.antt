@@ -29,7 +29,7 @@ use Rattle.format_pack.specs.Terms.{Sort, languages, translations, Term, constan
 use Rattle.reduce_signs.specs.Evaluation.{Constants, Value, Environment, nothing_bound, bound, there, exceeds, limited, sum_of, without_of, evaluate}
 use Rattle.reduce_operators.proofs.Proper.{Proper, good_proper, proper_good, Sound, formed_sound, GoodTranslation}
 use Rattle.reduce_operators.proofs.SumSound.{fit_languages, fit_translations, proper_union, proper_without, sound_union, sound_without}
-use Rattle.reduce_operators.proofs.JoinSound.{sound-join}
+use Rattle.reduce_operators.proofs.JoinSound.{sound_join}
 use Rattle.reduce_operators.proofs.IdentitySound.{sound_identity}
 
 -- A value that is there, and a step after it.
@@ -126,7 +126,7 @@ join_fair : (f g h : Translation) → GoodTranslation f → GoodTranslation g �
 join_fair f g h a b e x =
     let r = translation_join_lem f g h e in
     let w : Within (joined f g) = within (joined f g) (rw r.1 x) in
-    subst Sound r.1 (sound-join f g a.sound b.sound r.0 r.2 r.3 w.codes)
+    subst Sound r.1 (sound_join f g a.sound b.sound r.0 r.2 r.3 w.codes)
 
 make_fair : (l m : Language) (b : Body) (f : Translation) → GoodLanguage l → GoodLanguage m → GoodBody b
     → well_formed (record { source = l; target = m; body = b }) ≡ value f → Sound f

@@ -36,7 +36,7 @@ use Rattle.reduce_signs.specs.Inner.Forms.{Begins}
 use Rattle.reduce_signs.specs.Inner.Values.{slot_of, Changed, Held, Saved, OperandOf, AppliedOne, OperandsOf, AppliedTwo, Makes, Made as MadeOf, finished, Wrote}
 use Rattle.reduce_terms.specs.Inner.Reducing.{Context, Stands, Left, Stored, Ends, Says, SaysStored, SaysTwo, Kept, Asks, Gives, GivesStored, AsksTwo, GivesTwo}
 use Rattle.reduce_terms.proofs.Standing.{stands_in, next_byte, positive, no_sign, Two, pair_stands, One, single_stands, variable_stands, constant_stands, Bound, let_stands, Made, make_stands}
-use Rattle.reduce_terms.proofs.Holding.{evaluated_reads, evaluate_within, within_short, context_less, context-behind, context-bound, room_less}
+use Rattle.reduce_terms.proofs.Holding.{evaluated_reads, evaluate_within, within_short, context_less, context_behind, context_bound, room_less}
 
 -- What is left of a store.
 pub kept_same : (store : List ℕ) (top : ℕ) → Kept store store top
@@ -144,20 +144,20 @@ module _ {pack : List ℕ} {places : Places} {store : List ℕ} {top at levels :
 
   module _ {s : Sort} {after out filled : List ℕ} {w : Evaluated} (given : Gives s pack places store after top at levels out filled w) where
     -- An operand that is refused.
-    pub operand-refused : {z : Reason} → w ≡ Refused z → GivesStored s pack places store after top at levels out filled (Refused z)
-    operand-refused e = record { says = λ g x. to_refused _ _ _ _ _ e (given.says g x); kept = given.kept; long = given.long }
+    pub operand_refused : {z : Reason} → w ≡ Refused z → GivesStored s pack places store after top at levels out filled (Refused z)
+    operand_refused e = record { says = λ g x. to_refused _ _ _ _ _ e (given.says g x); kept = given.kept; long = given.long }
 
     module _ {n end : ℕ} (e : w ≡ To n end) where
       -- There is room for an operand's value.
-      pub operand-room : Asks s pack places store top at levels → (n ≤ length filled) × (top + n ≤ length after)
-      operand-room a =
+      pub operand_room : Asks s pack places store top at levels → (n ≤ length filled) × (top + n ≤ length after)
+      operand_room a =
           let z = (to_left e (given.says a.context a.stands)).0 in
           let h = room_less top n levels (length store) (length after) (positive levels (λ d. asks_level a d)) z.short a.context.room given.kept.long in
           (z.inside, omega arith)
 
       -- The value was copied into the store.
-      pub operand-to : {last : List ℕ} → top + n ≤ length after → Saved filled n after last top → GivesStored s pack places store last top at levels out filled (To (top + n) end)
-      operand-to {last} room saved = record {
+      pub operand_to : {last : List ℕ} → top + n ≤ length after → Saved filled n after last top → GivesStored s pack places store last top at levels out filled (To (top + n) end)
+      operand_to {last} room saved = record {
         says = λ g x.
             let z = to_left e (given.says g x) in (
               record {
@@ -186,40 +186,40 @@ module _ {pack : List ℕ} {places : Places} {store : List ℕ} {top : ℕ} (at 
     first_refused e = record { says = λ g x y. inl (stored_refused _ _ _ _ _ _ e (given.says (context_less g) x)); kept = given.kept; long = given.long }
 
     module _ {middle next : ℕ} (e : w ≡ To middle next) where
-      first-stored : (g : Context pack places store top levels) (x : Stands g.pack s (drop (at + 1) pack) (levels - 1))
+      first_stored : (g : Context pack places store top levels) (x : Stands g.pack s (drop (at + 1) pack) (levels - 1))
           → Stored s (evaluate (constants_of g.pack) g.environment x.term) after top middle × Ends pack x.rest next
-      first-stored g x = to_stored e (given.says (context_less g) x)
+      first_stored g x = to_stored e (given.says (context_less g) x)
 
-      abbrev second-context : (g : Context pack places store top levels) (x : Stands g.pack s (drop (at + 1) pack) (levels - 1)) → Context pack places after middle (levels - 1)
-      second-context g x = context-behind g after pos given.kept (first-stored g x).0
+      abbrev second_context : (g : Context pack places store top levels) (x : Stands g.pack s (drop (at + 1) pack) (levels - 1)) → Context pack places after middle (levels - 1)
+      second_context g x = context_behind g after pos given.kept (first_stored g x).0
 
-      abbrev second-stands : (g : Context pack places store top levels) (x : Stands g.pack s (drop (at + 1) pack) (levels - 1)) → Stands g.pack r x.rest (levels - 1)
+      abbrev second_stands : (g : Context pack places store top levels) (x : Stands g.pack s (drop (at + 1) pack) (levels - 1)) → Stands g.pack r x.rest (levels - 1)
           → Stands g.pack r (drop next pack) (levels - 1)
-      second-stands g x y = record { term = y.term; rest = y.rest; reads = ap (read_term (levels - 1) r) (first-stored g x).1.next ∙ y.reads; in_scope = y.in_scope }
+      second_stands g x y = record { term = y.term; rest = y.rest; reads = ap (read_term (levels - 1) r) (first_stored g x).1.next ∙ y.reads; in_scope = y.in_scope }
 
       -- The second, behind the first.
-      pub second-asks : AsksTwo s r pack places store top at levels → Asks r pack places after middle next (levels - 1)
-      second-asks a = record { context = second-context a.context a.first; stands = second-stands a.context a.first a.second }
+      pub second_asks : AsksTwo s r pack places store top at levels → Asks r pack places after middle next (levels - 1)
+      second_asks a = record { context = second_context a.context a.first; stands = second_stands a.context a.first a.second }
 
       module _ {last full : List ℕ} {v : Evaluated} (a : AsksTwo s r pack places store top at levels)
           (behind : GivesStored r pack places after last middle next (levels - 1) filled full v) where
         both_kept : Kept store last top
-        both_kept = kept_then given.kept (kept_lower after last top middle (first-stored a.context a.first).0.above behind.kept)
+        both_kept = kept_then given.kept (kept_lower after last top middle (first_stored a.context a.first).0.above behind.kept)
 
-        second-says : (g : Context pack places store top levels) (x : Stands g.pack s (drop (at + 1) pack) (levels - 1)) (y : Stands g.pack r x.rest (levels - 1))
+        second_says : (g : Context pack places store top levels) (x : Stands g.pack s (drop (at + 1) pack) (levels - 1)) (y : Stands g.pack r x.rest (levels - 1))
             → SaysStored r (evaluate (constants_of g.pack) g.environment y.term) pack y.rest last middle v
-        second-says g x y = behind.says (second-context g x) (second-stands g x y)
+        second_says g x y = behind.says (second_context g x) (second_stands g x y)
 
-        pub second-refused : {z : Reason} → v ≡ Refused z → GivesTwo s r pack places store last top at levels out full (Twos.Refused z)
-        second-refused q = record {
-          says = λ g x y. let m = (first-stored g x).0 in inr ((m.held, m.comes), stored_refused _ _ _ _ _ _ q (second-says g x y));
+        pub second_refused : {z : Reason} → v ≡ Refused z → GivesTwo s r pack places store last top at levels out full (Twos.Refused z)
+        second_refused q = record {
+          says = λ g x y. let m = (first_stored g x).0 in inr ((m.held, m.comes), stored_refused _ _ _ _ _ _ q (second_says g x y));
           kept = both_kept;
           long = behind.long ∙ given.long;
         }
 
         pub both_to : {end limit : ℕ} → v ≡ To limit end → GivesTwo s r pack places store last top at levels out full (Twos.To middle limit end)
         both_to q = record {
-          says = λ g x y. let k = to_stored q (second-says g x y) in (stored_kept last behind.kept (first-stored g x).0, k.0, k.1);
+          says = λ g x y. let k = to_stored q (second_says g x y) in (stored_kept last behind.kept (first_stored g x).0, k.0, k.1);
           kept = both_kept;
           long = behind.long ∙ given.long;
         }
@@ -268,8 +268,8 @@ module _ (pack : List ℕ) {places : Places} {store : List ℕ} {top : ℕ} (at 
         (evaluate (constants_of g.pack) g.environment (operands_of g x).second.term) pack (operands_of g x).second.rest after top w
     both_say g x = let t = operands_of g x in (two_as es er given).says g t.first t.second
 
-    pub binary-refused : {z : Reason} → w ≡ Twos.Refused z → Gives (first_sort o) pack places store after top at levels out filled (Refused z)
-    binary-refused {z} e = record {
+    pub binary_refused : {z : Reason} → w ≡ Twos.Refused z → Gives (first_sort o) pack places store after top at levels out filled (Refused z)
+    binary_refused {z} e = record {
       says = λ g x.
           let t = operands_of g x in
           let k = subst (SaysTwo (first_sort o) (second_sort o) _ _ pack _ after top) e (both_say g x) in
@@ -280,14 +280,14 @@ module _ (pack : List ℕ) {places : Places} {store : List ℕ} {top : ℕ} (at 
     }
 
     module _ {middle last end : ℕ} (e : w ≡ Twos.To middle last end) (a : Asks (first_sort o) pack places store top at levels) where
-      pub binary-values : OperandsOf o (slice top middle after) (slice middle last after) × (top ≤ middle) × (middle ≤ last) × (last ≤ length after)
-      binary-values =
+      pub binary_values : OperandsOf o (slice top middle after) (slice middle last after) × (top ≤ middle) × (middle ≤ last) × (last ≤ length after)
+      binary_values =
           let k = subst (SaysTwo (first_sort o) (second_sort o) _ _ pack _ after top) e (both_say a.context a.stands) in
           (((k.0.held, k.0.reads), (k.1.held, k.1.reads)), k.0.above, k.1.above, k.1.inside)
 
-      pub binary-gives : {full : List ℕ} {q : Outcome} {y : Evaluated} → AppliedTwo o (slice top middle after) (slice middle last after) filled full q
+      pub binary_gives : {full : List ℕ} {q : Outcome} {y : Evaluated} → AppliedTwo o (slice top middle after) (slice middle last after) filled full q
           → y ≡ finished q end → Gives (first_sort o) pack places store after top at levels out full y
-      binary-gives {full} {q} {y} h d = record {
+      binary_gives {full} {q} {y} h d = record {
         says = λ g x.
             let t = operands_of g x in
             let k = subst (SaysTwo (first_sort o) (second_sort o) _ _ pack _ after top) e (both_say g x) in
@@ -298,7 +298,7 @@ module _ (pack : List ℕ) {places : Places} {store : List ℕ} {top : ℕ} (at 
             (λ v z. evaluated_reads g x.term v z)
             (record { inside = k.2.inside; next = k.2.next ∙ t.ends });
         kept = given.kept;
-        long = let v = binary-values.0 in (h v.0.0 v.1.0 v.0.1 v.1.1).long ∙ given.long;
+        long = let v = binary_values.0 in (h v.0.0 v.1.0 v.0.1 v.1.1).long ∙ given.long;
       }
 
 module _ (pack : List ℕ) {places : Places} {store : List ℕ} {top : ℕ} (at : ℕ) {levels : ℕ} (o : Unary) (pos : 0 < levels) (sign : get_or pack at 0 ≡ unary_sign o) where
@@ -310,31 +310,31 @@ module _ (pack : List ℕ) {places : Places} {store : List ℕ} {top : ℕ} (at 
 
   module _ {s : Sort} {after out filled : List ℕ} {w : Evaluated} (es : s ≡ operand_sort o)
       (given : GivesStored s pack places store after top (at + 1) (levels - 1) out filled w) where
-    operand-says : (g : Context pack places store top levels) (x : Stands g.pack (unary_sort o) (drop at pack) levels)
+    operand_says : (g : Context pack places store top levels) (x : Stands g.pack (unary_sort o) (drop at pack) levels)
         → SaysStored (operand_sort o) (evaluate (constants_of g.pack) g.environment (operand_of g x).operand.term) pack (operand_of g x).operand.rest after top w
-    operand-says g x = (stored_as es given).says (context_less g) (operand_of g x).operand
+    operand_says g x = (stored_as es given).says (context_less g) (operand_of g x).operand
 
-    pub unary-refused : {z : Reason} → w ≡ Refused z → Gives (unary_sort o) pack places store after top at levels out filled (Refused z)
-    unary-refused {z} e = record {
+    pub unary_refused : {z : Reason} → w ≡ Refused z → Gives (unary_sort o) pack places store after top at levels out filled (Refused z)
+    unary_refused {z} e = record {
       says = λ g x.
           let t = operand_of g x in
           ap (evaluate (constants_of g.pack) g.environment) t.is
           ∙ (unary_evaluates o (constants_of g.pack) g.environment t.operand.term
-          ∙ ap (λ (q : Result (Value (operand_sort o))). q >>= λ v. value (unary_of o v) >>= limited (unary_sort o)) (stored_refused _ _ _ _ _ _ e (operand-says g x)));
+          ∙ ap (λ (q : Result (Value (operand_sort o))). q >>= λ v. value (unary_of o v) >>= limited (unary_sort o)) (stored_refused _ _ _ _ _ _ e (operand_says g x)));
       kept = given.kept;
       long = given.long;
     }
 
     module _ {last end : ℕ} (e : w ≡ To last end) (a : Asks (unary_sort o) pack places store top at levels) where
-      pub unary-value : OperandOf o (slice top last after) × (top ≤ last) × (last ≤ last) × (last ≤ length after)
-      unary-value = let k = (to_stored e (operand-says a.context a.stands)).0 in ((k.held, k.reads), k.above, omega arith, k.inside)
+      pub unary_value : OperandOf o (slice top last after) × (top ≤ last) × (last ≤ last) × (last ≤ length after)
+      unary_value = let k = (to_stored e (operand_says a.context a.stands)).0 in ((k.held, k.reads), k.above, omega arith, k.inside)
 
-      pub unary-gives : {full : List ℕ} {q : Outcome} {y : Evaluated} → AppliedOne o (slice top last after) filled full q
+      pub unary_gives : {full : List ℕ} {q : Outcome} {y : Evaluated} → AppliedOne o (slice top last after) filled full q
           → y ≡ finished q end → Gives (unary_sort o) pack places store after top at levels out full y
-      unary-gives {full} {q} {y} h d = record {
+      unary_gives {full} {q} {y} h d = record {
         says = λ g x.
             let t = operand_of g x in
-            let k = to_stored e (operand-says g x) in
+            let k = to_stored e (operand_says g x) in
             wrote_says (unary_sort o) (value (unary_of o k.0.held)) _ pack x.rest filled full end y
             (record { outcome = q; gives = h k.0.held k.0.reads; answer = d })
             (sym (ap (evaluate (constants_of g.pack) g.environment) t.is
@@ -343,7 +343,7 @@ module _ (pack : List ℕ) {places : Places} {store : List ℕ} {top : ℕ} (at 
             (λ v z. evaluated_reads g x.term v z)
             (record { inside = k.1.inside; next = k.1.next ∙ t.ends });
         kept = given.kept;
-        long = let v = unary-value.0 in (h v.0 v.1).long ∙ given.long;
+        long = let v = unary_value.0 in (h v.0 v.1).long ∙ given.long;
       }
 
 module _ (pack : List ℕ) {places : Places} {store : List ℕ} {top : ℕ} (at : ℕ) {levels : ℕ} (pos : 0 < levels) where
@@ -405,17 +405,17 @@ module _ (pack : List ℕ) {places : Places} {store : List ℕ} {top : ℕ} (at 
 
   module _ {after out filled : List ℕ} {w : EvaluatedTwo} (sign : get_or pack at 0 ≡ 0x50)
       (given : GivesTwo languages languages pack places store after top at levels out filled w) where
-    made-say : (g : Context pack places store top levels) (x : Stands g.pack translations (drop at pack) levels)
+    made_say : (g : Context pack places store top levels) (x : Stands g.pack translations (drop at pack) levels)
         → SaysTwo languages languages (evaluate (constants_of g.pack) g.environment (making sign g x).terms.first.term)
         (evaluate (constants_of g.pack) g.environment (making sign g x).terms.second.term) pack (making sign g x).terms.second.rest after top w
-    made-say g x = let t = (making sign g x).terms in given.says g t.first t.second
+    made_say g x = let t = (making sign g x).terms in given.says g t.first t.second
 
-    pub make-refused : {z : Reason} → w ≡ Twos.Refused z → Gives translations pack places store after top at levels out filled (Refused z)
+    pub make_refused : {z : Reason} → w ≡ Twos.Refused z → Gives translations pack places store after top at levels out filled (Refused z)
     unfolding evaluate
-    make-refused {z} e = record {
+    make_refused {z} e = record {
       says = λ g x.
           let t = (making sign g x).terms in
-          let k = subst (SaysTwo languages languages _ _ pack _ after top) e (made-say g x) in
+          let k = subst (SaysTwo languages languages _ _ pack _ after top) e (made_say g x) in
           ap (evaluate (constants_of g.pack) g.environment) t.is
           ∙ steps_refused (evaluate (constants_of g.pack) g.environment t.first.term) (evaluate (constants_of g.pack) g.environment t.second.term) _ z k;
       kept = given.kept;
@@ -424,21 +424,21 @@ module _ (pack : List ℕ) {places : Places} {store : List ℕ} {top : ℕ} (at 
 
     module _ {middle last end : ℕ} (e : w ≡ Twos.To middle last end) where
       -- The number behind both languages.
-      made-next : (g : Context pack places store top levels) (x : Stands g.pack translations (drop at pack) levels)
+      made_next : (g : Context pack places store top levels) (x : Stands g.pack translations (drop at pack) levels)
           → (end < length pack) × (get_or pack end 0 ≡ (making sign g x).number) × (drop (end + 1) pack ≡ x.rest)
-      made-next g x =
-          let k = subst (SaysTwo languages languages _ _ pack _ after top) e (made-say g x) in
+      made_next g x =
+          let k = subst (SaysTwo languages languages _ _ pack _ after top) e (made_say g x) in
           next_byte pack end (making sign g x).number x.rest (k.2.next ∙ (making sign g x).terms.ends)
 
-      pub make-next : Asks translations pack places store top at levels → end < length pack
-      make-next a = (made-next a.context a.stands).0
+      pub make_next : Asks translations pack places store top at levels → end < length pack
+      make_next a = (made_next a.context a.stands).0
 
-      pub make-values : {i : ℕ} → i ≡ get_or pack end 0 → Asks translations pack places store top at levels
+      pub make_values : {i : ℕ} → i ≡ get_or pack end 0 → Asks translations pack places store top at levels
           → Makes pack i (slice top middle after) (slice middle last after) × (top ≤ middle) × (middle ≤ last) × (last ≤ length after)
-      make-values {i} q a =
+      make_values {i} q a =
           let t = making sign a.context a.stands in
-          let k = subst (SaysTwo languages languages _ _ pack _ after top) e (made-say a.context a.stands) in
-          let f = made-next a.context a.stands in (
+          let k = subst (SaysTwo languages languages _ _ pack _ after top) e (made_say a.context a.stands) in
+          let f = made_next a.context a.stands in (
             (
               (a.context.pack, a.context.packed, (t.body.0, ap (get_elem? a.context.pack.bodies) (q ∙ f.1) ∙ t.body.1)),
               (k.0.held, k.0.reads),
@@ -449,15 +449,15 @@ module _ (pack : List ℕ) {places : Places} {store : List ℕ} {top : ℕ} (at 
             k.1.inside,
           )
 
-      pub make-gives : {i : ℕ} {full : List ℕ} {q : Outcome} {y : Evaluated} → i ≡ get_or pack end 0 → Asks translations pack places store top at levels
+      pub make_gives : {i : ℕ} {full : List ℕ} {q : Outcome} {y : Evaluated} → i ≡ get_or pack end 0 → Asks translations pack places store top at levels
           → MadeOf pack i (slice top middle after) (slice middle last after) filled full q
           → y ≡ finished q (end + 1) → Gives translations pack places store after top at levels out full y
       unfolding evaluate
-      make-gives {i} {full} {q} {y} z a h d = record {
+      make_gives {i} {full} {q} {y} z a h d = record {
         says = λ g x.
             let t = making sign g x in
-            let k = subst (SaysTwo languages languages _ _ pack _ after top) e (made-say g x) in
-            let f = made-next g x in
+            let k = subst (SaysTwo languages languages _ _ pack _ after top) e (made_say g x) in
+            let f = made_next g x in
             wrote_says translations (well_formed (record { source = k.0.held; target = k.1.held; body = t.body.0 })) _ pack x.rest filled full (end + 1) y
             (record {
               outcome = q;
@@ -470,7 +470,7 @@ module _ (pack : List ℕ) {places : Places} {store : List ℕ} {top : ℕ} (at 
             (λ v w. evaluated_reads g x.term v w)
             (record { inside = omega (arith, f.0); next = f.2 });
         kept = given.kept;
-        long = let v = (make-values z a).0 in (h v.0.0 v.0.2.0 v.1.0 v.2.0 v.0.1 v.0.2.1 v.1.1 v.2.1).long ∙ given.long;
+        long = let v = (make_values z a).0 in (h v.0.0 v.0.2.0 v.1.0 v.2.0 v.0.1 v.0.2.1 v.1.1 v.2.1).long ∙ given.long;
       }
 
 -- The limit at a let never refuses: its value was tested at the sign of the inner term.
@@ -489,9 +489,9 @@ module _ (pack : List ℕ) {places : Places} {store : List ℕ} {top : ℕ} (at 
   let_number a = let b = bound_of a.context a.stands in (b.inside, b.small)
 
   module _ {after out filled : List ℕ} {w : Evaluated} (given : GivesStored r pack places store after top (at + 2) (levels - 1) out filled w) where
-    pub let-refused : {z : Reason} → w ≡ Refused z → Gives s pack places store after top at levels out filled (Refused z)
+    pub let_refused : {z : Reason} → w ≡ Refused z → Gives s pack places store after top at levels out filled (Refused z)
     unfolding evaluate
-    let-refused {z} e = record {
+    let_refused {z} e = record {
       says = λ g x.
           let b = bound_of g x in
           ap (evaluate (constants_of g.pack) g.environment) b.terms.is
@@ -506,31 +506,31 @@ module _ (pack : List ℕ) {places : Places} {store : List ℕ} {top : ℕ} (at 
           → Stored r (evaluate (constants_of g.pack) g.environment (bound_of g x).terms.first.term) after top last × Ends pack (bound_of g x).terms.first.rest next
       first_of g x = to_stored e (given.says (context_less g) (bound_of g x).terms.first)
 
-      inner-stands : (g : Context pack places store top levels) (x : Stands g.pack s (drop at pack) levels) → Stands g.pack s (drop next pack) (levels - 1)
-      inner-stands g x = let y = (bound_of g x).terms.second in record {
+      inner_stands : (g : Context pack places store top levels) (x : Stands g.pack s (drop at pack) levels) → Stands g.pack s (drop next pack) (levels - 1)
+      inner_stands g x = let y = (bound_of g x).terms.second in record {
         term = y.term;
         rest = y.rest;
         reads = ap (read_term (levels - 1) s) (first_of g x).1.next ∙ y.reads;
         in_scope = y.in_scope;
       }
 
-      pub let-room : Asks s pack places store top at levels → top + 1 ≤ length after
-      let-room a = let k = room_less top 1 levels (length store) (length after) pos (omega arith) a.context.room given.kept.long in omega arith
+      pub let_room : Asks s pack places store top at levels → top + 1 ≤ length after
+      let_room a = let k = room_less top 1 levels (length store) (length after) pos (omega arith) a.context.room given.kept.long in omega arith
 
       module _ {inner : Places} {i : ℕ} (slot : i ≡ slot_of r (get_or pack (at + 1) 0)) (new : Changed places inner i (top + 1) last) where
-        inner-context : (g : Context pack places store top levels) (x : Stands g.pack s (drop at pack) levels) → Context pack inner after last (levels - 1)
-        inner-context g x =
-            context-bound g after pos given.kept (first_of g x).0 inner (get_or pack (at + 1) 0) (bound_of g x).small
+        inner_context : (g : Context pack places store top levels) (x : Stands g.pack s (drop at pack) levels) → Context pack inner after last (levels - 1)
+        inner_context g x =
+            context_bound g after pos given.kept (first_of g x).0 inner (get_or pack (at + 1) 0) (bound_of g x).small
             (subst (λ (j : ℕ). Changed places inner j (top + 1) last) slot new)
 
-        pub let-inner : Asks s pack places store top at levels → Asks s pack inner after last next (levels - 1)
-        unfolding inner-context
-        let-inner a = record { context = inner-context a.context a.stands; stands = inner-stands a.context a.stands }
+        pub let_inner : Asks s pack places store top at levels → Asks s pack inner after last next (levels - 1)
+        unfolding inner_context
+        let_inner a = record { context = inner_context a.context a.stands; stands = inner_stands a.context a.stands }
 
-        pub let-gives : {final full : List ℕ} {y : Evaluated} → Asks s pack places store top at levels
+        pub let_gives : {final full : List ℕ} {y : Evaluated} → Asks s pack places store top at levels
             → Gives s pack inner after final last next (levels - 1) filled full y → Gives s pack places store final top at levels out full y
-        unfolding evaluate inner-context bound_of inner-stands
-        let-gives {final} {full} {y} a h = record {
+        unfolding evaluate inner_context bound_of inner_stands
+        let_gives {final} {full} {y} a h = record {
           says = λ g x.
               let b = bound_of g x in
               let v = (first_of g x).0 in
@@ -540,7 +540,7 @@ module _ (pack : List ℕ) {places : Places} {store : List ℕ} {top : ℕ} (at 
               ∙ (ap (λ (q : Result (Value r)). q >>= λ v. evaluate (constants_of g.pack) (bound g.environment r (get_or pack (at + 1) 0) v) b.terms.second.term >>= limited s) v.comes
               ∙ limited_same s q (λ u d. evaluate_within (constants_of g.pack) (bound g.environment r (get_or pack (at + 1) 0) v.held) b.terms.second.term u d)) in
               subst (λ (o : Result (Value s)). Says s o pack x.rest full y) (sym z)
-              (subst (λ (l : List ℕ). Says s q pack l full y) b.terms.ends (h.says (inner-context g x) (inner-stands g x)));
+              (subst (λ (l : List ℕ). Says s q pack l full y) b.terms.ends (h.says (inner_context g x) (inner_stands g x)));
           kept = kept_then given.kept (kept_lower after final top last (first_of a.context a.stands).0.above h.kept);
           long = h.long ∙ given.long;
         }

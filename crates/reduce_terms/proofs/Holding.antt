@@ -196,8 +196,8 @@ module _ {bytes : List ℕ} {places : Places} {store : List ℕ} {top n : ℕ} (
       omega (arith, ap length kept_below, length-append (take top store) (encode_as r l.held), a, b)
 
   -- What is known at a second operand.
-  abbrev pub context-behind : Context bytes places after last (n - 1)
-  context-behind = record {
+  abbrev pub context_behind : Context bytes places after last (n - 1)
+  context_behind = record {
     pack = g.pack;
     packed = g.packed;
     environment = g.environment;
@@ -213,8 +213,8 @@ module _ {bytes : List ℕ} {places : Places} {store : List ℕ} {top n : ℕ} (
       (held_bound g.environment places inner (take top store) r v l.held small g.held b (ap (value_in r) (sym l.bytes) ∙ l.reads))
 
   -- What is known at the second term of a let.
-  abbrev pub context-bound : (inner : Places) (v : ℕ) → v < 16 → Changed places inner (slot_of r v) (top + 1) last → Context bytes inner after last (n - 1)
-  context-bound inner v small new = record {
+  abbrev pub context_bound : (inner : Places) (v : ℕ) → v < 16 → Changed places inner (slot_of r v) (top + 1) last → Context bytes inner after last (n - 1)
+  context_bound inner v small new = record {
     pack = g.pack;
     packed = g.packed;
     environment = bound g.environment r v l.held;

@@ -20,12 +20,12 @@ use Rattle.reduce_operation.specs.Operations.{Ready, ready, work, reduce_bytes}
 use Rattle.reduce_operation.proofs.Operation.{ready_value}
 use Rattle.report.specs.Languages.{LiesWithin}
 use Rattle.report.specs.Translations.{IsIdentity}
-use Rattle.report.specs.Reduction.{EnvironmentOf, empty, src-l, ReducesX, res-x, comp-x, idx-x}
+use Rattle.report.specs.Reduction.{EnvironmentOf, empty, src_l, ReducesX, res_x, comp_x, idx_x}
 use Rattle.report.specs.Agreement.{InBytes, AcceptedLanguage, LanguageAccepted, AcceptedTranslation, TranslationAccepted, LegalIsTyped, CodeIsTyped, TransformationIsRun, OneValue, BoundFormed, ValuesFormed, OneNumberPack, Reduced, ReduceIsFigure, FigureIsReduce, WithoutIsComposition, WithoutIsTerm}
 use Rattle.report.proofs.Sets.{mem_bytes}
 use Rattle.report.proofs.Typing.{code_has, code_typed, typed_legal, legal_typed}
 use Rattle.report.proofs.Languages.{within_larger, formed_proper, formed_rises}
-use Rattle.report.proofs.WellFormed.{mapped_number, body_rises, formed_sound, formed-tests}
+use Rattle.report.proofs.WellFormed.{mapped_number, body_rises, formed_sound, formed_tests}
 use Rattle.report.proofs.Identities.{identity_formed, identity_is}
 use Rattle.report.proofs.Differences.{without_is_x}
 use Rattle.report.proofs.Restriction.{restriction}
@@ -45,7 +45,7 @@ pub accepted_translation : AcceptedTranslation
 accepted_translation file f b e one = accepted_formed f (accepted file f (mem_bytes file b) e) one
 
 pub translation_accepted : TranslationAccepted
-translation_accepted f w s = (formed-tests f w (shallow f s), good_back f (fair_good translations f (formed_sound f w (shallow f s)) s))
+translation_accepted f w s = (formed_tests f w (shallow f s), good_back f (fair_good translations f (formed_sound f w (shallow f s)) s))
 
 pub legal_is_typed : LegalIsTyped
 legal_is_typed l w a n = (λ x. legal_typed (formed_rises l w) x, λ x. typed_legal x)
@@ -122,7 +122,7 @@ module _ (c : Constants) (α : EnvironmentOf Language) (β : EnvironmentOf Trans
       let i = identity_of f.source in
       let ii = identity_is f.source w.source in
       let dd = without_is_x i a.1 (identity_formed f.source i w.source ii) in
-      comp-x a.2 (res-x (idx-x (src-l a.2 refl) ii) a.3 dd) (itself_lies f a.1)
+      comp_x a.2 (res_x (idx_x (src_l a.2 refl) ii) a.3 dd) (itself_lies f a.1)
       ((restriction f w a.1 i (translation_without i a.1) ii dd h).0 a.4)
 
   spelt_less : ReducesX c α β spelt h → ReducesX c α β (without x y) h
@@ -136,7 +136,7 @@ module _ (c : Constants) (α : EnvironmentOf Language) (β : EnvironmentOf Trans
       let w = value_x b.languages b.translations a.2 in
       let g : i.0 ≡ f.source = s.2 ∙ ap (λ (t : Translation). t.source) (reduces_one c α β x s.0 f s.1 a.2) in
       let ii : IsIdentity f.source d.0 = subst (λ (l : Language). IsIdentity l d.0) g i.2 in
-      res-x a.2 d.3 ((restriction f w d.1 d.0 a.1 ii d.4 h).1 a.4)
+      res_x a.2 d.3 ((restriction f w d.1 d.0 a.1 ii d.4 h).1 a.4)
 
 pub without_is_term : WithoutIsTerm
 without_is_term c α β b x y h = (less_spelt c α β b x y h, spelt_less c α β b x y h)

@@ -19,7 +19,7 @@ use Rattle.tree_reader.proofs.RoundTrip.{Apart, round, as_code}
 use Rattle.format_translation.specs.Translation.{Body, item_key}
 use Rattle.reduce_operators.proofs.Proper.{proper_apart}
 use Rattle.report.specs.Languages.{WellFormedLanguage}
-use Rattle.report.specs.Typing.{Picked, picked_first, picked_later, Gaps, HasKind, has-argument, has-token, has-node, HaveKinds, have-none, have-more, Mapped}
+use Rattle.report.specs.Typing.{Picked, picked_first, picked_later, Gaps, HasKind, has_argument, has_token, has_node, HaveKinds, have_none, have_more, Mapped}
 use Rattle.report.proofs.Typing.{code_typed}
 use Rattle.report.proofs.Languages.{formed_proper, formed_rises}
 
@@ -52,17 +52,17 @@ module _ {l : Language} (w : WellFormedLanguage l) {ρ : Gaps} (few : (i n : ℕ
   mutual
     unfolding write
 
-    pub has-bytes : {a : Code} {k : ℕ} → HasKind l ρ a k → Bytes (write code a)
-    has-bytes (has-argument {i = i} {n = n} r) = (omega arith, (few i n r, tt))
-    has-bytes (has-token {w = v} {n = n} {c = c} m e) =
+    pub has_bytes : {a : Code} {k : ℕ} → HasKind l ρ a k → Bytes (write code a)
+    has_bytes (has_argument {i = i} {n = n} r) = (omega arith, (few i n r, tt))
+    has_bytes (has_token {w = v} {n = n} {c = c} m e) =
         let h = w.writable (class n c) m in
         let q = value_high c v e in
         (omega arith, two_bytes_lem v (omega arith))
-    has-bytes (has-node {n = n} {p = p} {ks = ks} m hs) = (omega arith, ((w.writable (production n p ks) m).1, have-bytes hs))
+    has_bytes (has_node {n = n} {p = p} {ks = ks} m hs) = (omega arith, ((w.writable (production n p ks) m).1, have_bytes hs))
 
-    pub have-bytes : {t : Codes} {ks : List ℕ} → HaveKinds l ρ t ks → Bytes (write_all code t)
-    have-bytes have-none = tt
-    have-bytes (have-more {a = a} {t = t} x xs) = each_append _ (write code a) (write_all code t) (has-bytes x) (have-bytes xs)
+    pub have_bytes : {t : Codes} {ks : List ℕ} → HaveKinds l ρ t ks → Bytes (write_all code t)
+    have_bytes have_none = tt
+    have_bytes (have_more {a = a} {t = t} x xs) = each_append _ (write code a) (write_all code t) (has_bytes x) (have_bytes xs)
 
 pub picked_few : {ks : List ℕ} {i n : ℕ} → Picked ks i n → i ≤ length ks
 picked_few picked_first = omega arith

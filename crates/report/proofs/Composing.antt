@@ -16,9 +16,9 @@ use Rattle.report.specs.Transformation.{Reconstructor, Transforms}
 use Rattle.report.specs.WellFormed.{WellFormed}
 use Rattle.report.specs.Translations.{Composed, composed_kind, composed_code, IsComposition}
 use Rattle.report.proofs.Sets.{mem_in, in_mem}
-use Rattle.report.proofs.Typing.{has-larger}
+use Rattle.report.proofs.Typing.{has_larger}
 use Rattle.report.proofs.Languages.{within_kinds, kind_below}
-use Rattle.report.proofs.Transformation.{typed-transforms, transforms-one, mapping_one}
+use Rattle.report.proofs.Transformation.{typed_transforms, transforms_one, mapping_one}
 use Rattle.report.proofs.WellFormed.{body_rises, mapping_zero, clause_zero}
 
 -- The key of a clause of number 0 tells its production.
@@ -43,7 +43,7 @@ module _ (f g : Translation) (w : LiesWithin g.target f.source) (wf : WellFormed
   unfolding item_key plain_key number_of
   code_image n p c x =
       let r = (wg.has_codes n p c x).2 in
-      let y = typed-transforms f wf (has-larger w (λ i t q. q) r.typed) in
+      let y = typed_transforms f wf (has_larger w (λ i t q. q) r.typed) in
       (clause n p 0 (write code y.0), composed_code r y.1, refl)
 
   image : (a : Item) → a ∈ g.body → Image a
@@ -67,7 +67,7 @@ module _ (f g : Translation) (w : LiesWithin g.target f.source) (wf : WellFormed
   codes_one n p m q a b c d x y x' y' e o =
       let r : Reconstructor g n p c = subst (λ (k : ℕ). Reconstructor g n k c) (sym o) (subst (λ (k : ℕ). Reconstructor g k q c) (sym e) x') in
       let z : c ≡ a = wg.one_code n p c a r x in
-      let s : b ≡ d = transforms-one f wf y (subst (λ (k : Code). Transforms f k d) z y') in
+      let s : b ≡ d = transforms_one f wf y (subst (λ (k : Code). Transforms f k d) z y') in
       λ i. clause (e i) (o i) 0 (write code (s i))
 
   kind_small : (n u : ℕ) → mapping n 0 u ∈ g.body → suc n ≤ 32

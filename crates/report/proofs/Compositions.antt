@@ -12,9 +12,9 @@ use Rattle.report.specs.Typing.{HasKind, Mapped}
 use Rattle.report.specs.Transformation.{Reconstructor, Transforms}
 use Rattle.report.specs.WellFormed.{FromRegular, Maps, KeepsRanges, Covers, HasCodes, WellFormed}
 use Rattle.report.specs.Translations.{Holds, Composed, composed_kind, composed_code, IsComposition}
-use Rattle.report.proofs.Typing.{has-larger}
+use Rattle.report.proofs.Typing.{has_larger}
 use Rattle.report.proofs.Languages.{within_kinds, within_larger}
-use Rattle.report.proofs.Transformation.{has_reconstructor, typed-transforms, transformed-has}
+use Rattle.report.proofs.Transformation.{has_reconstructor, typed_transforms, transformed_has}
 use Rattle.report.proofs.WellFormed.{code_one, ranges_produced}
 use Rattle.report.proofs.Sums.{same_parts, same_bodies}
 
@@ -40,7 +40,7 @@ module _ (f g : Translation) (b : Body) (wf : WellFormed f) (wg : WellFormed g) 
 
   -- A reconstructor of the second is typed over the first's source.
   carried : {n p : ℕ} {a : Code} (x : Reconstructor g n p a) → HasKind f.source (Mapped g.body x.arguments) a x.kind
-  carried x = has-larger w (λ i t q. q) x.typed
+  carried x = has_larger w (λ i t q. q) x.typed
 
   made_reconstructs : {n p : ℕ} {a c : Code} → Reconstructor g n p a → Transforms f a c → Reconstructor made n p c
   made_reconstructs {n} {p} {a} {c} x y =
@@ -51,9 +51,9 @@ module _ (f g : Translation) (b : Body) (wf : WellFormed f) (wg : WellFormed g) 
         entry = x.entry;
         to = (d.members (mapping n 0 t.0)).1 (composed_kind x.to t.1);
         typed =
-            has-larger (within_larger (λ e m. m))
+            has_larger (within_larger (λ e m. m))
             (λ i k q. (q.1.0, q.1.1, (d.members (mapping q.1.0 0 k)).1 (composed_kind q.1.2 q.2)))
-            (transformed-has f wf (carried x) y t.1);
+            (transformed_has f wf (carried x) y t.1);
         stands = (d.members (clause n p 0 (write code c))).1 (composed_code x y);
       }
 
@@ -79,7 +79,7 @@ module _ (f g : Translation) (b : Body) (wf : WellFormed f) (wg : WellFormed g) 
   made_covers : Covers made
   made_covers n p ks x =
       let r = has_reconstructor g wg n p ks x in
-      let y = typed-transforms f wf (carried r.1) in
+      let y = typed_transforms f wf (carried r.1) in
       (write code y.0, (d.members (clause n p 0 (write code y.0))).1 (composed_code r.1 y.1))
 
   made_codes : HasCodes made

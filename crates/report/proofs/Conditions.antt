@@ -23,7 +23,7 @@ use Rattle.report.specs.WellFormed.{Maps, KeepsRanges, Covers, HasCodes, WellFor
 use Rattle.report.specs.Conditions.{Noted, FiveIsMapping, HasProductions, SixIsClauses, Shallow, SevenIsCodes, OrderIsOneCode, RangesAreProduced}
 use Rattle.report.proofs.Sets.{mem_in, in_mem, mem_bytes}
 use Rattle.report.proofs.Languages.{nonterminal_in, in_nonterminal, formed_proper, formed_rises, kind_below}
-use Rattle.report.proofs.WellFormed.{mapping_number, clause_number_lem, code_one, ranges_produced, fits_formed, formed-tests}
+use Rattle.report.proofs.WellFormed.{mapping_number, clause_number_lem, code_one, ranges_produced, fits_formed, formed_tests}
 
 -- Two tests that agree.
 beq_true : (a b : Bool) → beq a b ≡ true → b ≡ true → a ≡ true
@@ -87,45 +87,45 @@ module _ (f : Translation) (n : Noted f) where
 
   -- And to it.
   module _ (m : Maps f) (r : KeepsRanges f) where
-    maps-kinds : kinds_mapped f ≡ true
+    maps_kinds : kinds_mapped f ≡ true
     unfolding kinds_mapped kinds
-    maps-kinds =
+    maps_kinds =
         mem_all _ kinds (λ k x. equal_beq _ _ (same_truth (is_some (mapping_of f.body k 0)) (is_in f.source k)
         (λ e. let t = some_is (mapping_of f.body k 0) e in nonterminal_in (m.only k t.0 (mem_in _ _ (mapping_mem f.body k 0 t.0 t.1))).0)
         (λ e. let t = m.each k (in_nonterminal f.source k e) in is_some_lem (mapping_of f.body k 0) (mem_mapping f.body rises k 0 t.0 (in_mem t.1)))))
 
-    maps-reach : (a : Item) → Mem a f.body → reaches_target f a ≡ true
+    maps_reach : (a : Item) → Mem a f.body → reaches_target f a ≡ true
     unfolding reaches_target
-    maps-reach (mapping k j t) x = let q = m.only k t (mem_in _ _ (rw (mapping_zero k j t x) at x)) in both_and _ _ (nonterminal_in q.0) (nonterminal_in q.1)
-    maps-reach (clause k p j c) x = refl
+    maps_reach (mapping k j t) x = let q = m.only k t (mem_in _ _ (rw (mapping_zero k j t x) at x)) in both_and _ _ (nonterminal_in q.0) (nonterminal_in q.1)
+    maps_reach (clause k p j c) x = refl
 
-    ranges-kept : (a : Item) → Mem a f.body → class_kept f a ≡ true
+    ranges_kept : (a : Item) → Mem a f.body → class_kept f a ≡ true
     unfolding class_kept
-    ranges-kept (mapping k j t) x =
+    ranges_kept (mapping k j t) x =
         let y : mapping k 0 t ∈ f.body = mem_in _ _ (rw (mapping_zero k j t x) at x) in
         range_kept_lem (range_of f.source k) (range_of f.target t) (λ c e.
         let d = r k t c (mem_in _ _ (range_mem f.source k c e)) y in
         (d.0, mem_range f.target (formed_rises f.target n.target) t d.0 (in_mem d.1), all_within_lem c d.0 d.2))
-    ranges-kept (clause k p j c) x = refl
+    ranges_kept (clause k p j c) x = refl
 
-    maps-fit : mapping_fits f ≡ true
+    maps_fit : mapping_fits f ≡ true
     unfolding mapping_fits
-    maps-fit = rw (maps-kinds, mem_all (reaches_target f) f.body maps-reach, mem_all (class_kept f) f.body ranges-kept)
+    maps_fit = rw (maps_kinds, mem_all (reaches_target f) f.body maps_reach, mem_all (class_kept f) f.body ranges_kept)
 
   -- From the test of the clauses, and to it.
   module _ (m : Maps f) where
-    clauses-cover : clauses_fit f ≡ true → Covers f
+    clauses_cover : clauses_fit f ≡ true → Covers f
     unfolding clauses_fit has_clause
-    clauses-cover e k p ks x =
+    clauses_cover e k p ks x =
         let h = and_both (all (has_clause f) f.source) (all (has_production f) f.body) e in
         let t = m.each k (has_production_lem {p = p} {ks = ks} x) in
         let y = all_mem (has_clause f) f.source h.0 (production k p ks) (in_mem x) in
         let q = some_is (clause_of f.body k p 0) (all_mem _ (numbers_of f.body k) y 0 (mem_number f.body k 0 t.0 (in_mem t.1))) in
         (q.0, mem_in _ _ (clause_mem f.body k p 0 q.0 q.1))
 
-    clauses-produced : clauses_fit f ≡ true → HasProductions f
+    clauses_produced : clauses_fit f ≡ true → HasProductions f
     unfolding clauses_fit has_production
-    clauses-produced e k p c x =
+    clauses_produced e k p c x =
         let h = and_both (all (has_clause f) f.source) (all (has_production f) f.body) e in
         let y = and_both (is_some (arguments_of f.source k p)) (is_some (mapping_of f.body k 0)) (all_mem (has_production f) f.body h.1 (clause k p 0 c) (in_mem x)) in
         let q = some_is (arguments_of f.source k p) y.0 in
@@ -157,13 +157,13 @@ module _ (f : Translation) (n : Noted f) where
 
   -- From the test of the codes, and to it.
   module _ (e : mapping_fits f ≡ true) (d : clauses_fit f ≡ true) where
-    codes-are : codes_fit f ≡ true → HasCodes f
-    codes-are h =
+    codes_are : codes_fit f ≡ true → HasCodes f
+    codes_are h =
         (fits_formed f n.one_number n.source n.target rises (λ k p c m. mem_bytes c (n.in_bytes k p c (mem_in _ _ m)))
         (tests_fit f (kinds_below f (formed_proper f.source n.source)) rises e d h)).has_codes
 
-    all-formed : HasCodes f → WellFormed f
-    all-formed h = record {
+    all_formed : HasCodes f → WellFormed f
+    all_formed h = record {
       one_number = n.one_number;
       in_order = n.in_order;
       source = n.source;
@@ -171,29 +171,29 @@ module _ (f : Translation) (n : Noted f) where
       maps = fits_maps e;
       from_produced = ranges_produced f (fits_ranges e);
       keeps_ranges = fits_ranges e;
-      covers = clauses-cover (fits_maps e) d;
+      covers = clauses_cover (fits_maps e) d;
       has_codes = h;
       one_code = code_one f rises n.source n.target;
     }
 
-    codes-fit : Shallow f → HasCodes f → codes_fit f ≡ true
+    codes_fit_lem : Shallow f → HasCodes f → codes_fit f ≡ true
     unfolding well_formed
-    codes-fit s h =
-        let w = formed-tests f (all-formed h) (λ a m. s a (mem_in _ _ m)) in
+    codes_fit_lem s h =
+        let w = formed_tests f (all_formed h) (λ a m. s a (mem_in _ _ m)) in
         let a = refuse_value (not (mapping_fits f)) WrongMapping _ w in
         let b = refuse_value (not (clauses_fit f)) WrongClauses _ a.1 in
         true_not _ (refuse_value (not (codes_fit f)) CodeRefused _ b.1).0
 
 pub five_is_mapping : FiveIsMapping
-five_is_mapping f n = (λ e. (fits_maps f n e, fits_ranges f n e), λ h. maps-fit f n h.0 h.1)
+five_is_mapping f n = (λ e. (fits_maps f n e, fits_ranges f n e), λ h. maps_fit f n h.0 h.1)
 
 pub six_is_clauses : SixIsClauses
 six_is_clauses f n e =
     let m = fits_maps f n e in
-    (λ d. (clauses-cover f n m d, clauses-produced f n m d), λ h. clauses_fit_lem f n m h.0 h.1)
+    (λ d. (clauses_cover f n m d, clauses_produced f n m d), λ h. clauses_fit_lem f n m h.0 h.1)
 
 pub seven_is_codes : SevenIsCodes
-seven_is_codes f n s e d = (codes-are f n e d, codes-fit f n e d s)
+seven_is_codes f n s e d = (codes_are f n e d, codes_fit_lem f n e d s)
 
 pub order_is_one_code : OrderIsOneCode
 order_is_one_code f n = code_one f (is_rising item_key f.body n.in_order) n.source n.target

@@ -17,7 +17,7 @@ use Rattle.report.specs.Transformation.{Reconstructor}
 use Rattle.report.specs.WellFormed.{KeepsRanges, WellFormed}
 use Rattle.report.specs.Translations.{Holds, ItemOf, kind_of, production_of_lem, IsDifferenceX}
 use Rattle.report.proofs.Sets.{mem_in, in_mem}
-use Rattle.report.proofs.Typing.{has-larger, picked_in}
+use Rattle.report.proofs.Typing.{has_larger, picked_in}
 use Rattle.report.proofs.Languages.{kinds_larger, difference_formed, difference_one, within_larger, nonterminal_in, in_nonterminal, without_is, formed_proper}
 use Rattle.report.proofs.WellFormed.{code_one, ranges_produced, body_rises}
 use Rattle.report.proofs.Sums.{same_parts, same_bodies}
@@ -49,7 +49,7 @@ module _ (f : Translation) (l s : Language) (b : Body) (w : WellFormed f) (d : I
         kind = x.kind;
         entry = m';
         to = kept_mapping n x.kind (has_production_lem {p = p} {ks = ks} m) x.to;
-        typed = has-larger (within_larger (λ a y. y)) (λ i t q. (q.0, q.1, kept_mapping q.0 t (is_argument m' (picked_in q.1)) q.2)) x.typed;
+        typed = has_larger (within_larger (λ a y. y)) (λ i t q. (q.0, q.1, kept_mapping q.0 t (is_argument m' (picked_in q.1)) q.2)) x.typed;
         stands = (h.members _).1 (x.stands, production_of_lem m);
       }
 

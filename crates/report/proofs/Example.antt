@@ -29,7 +29,7 @@ use Rattle.report.proofs.Sets.{in_mem}
 use Rattle.report.proofs.Files.{accepted, accepted_formed}
 
 is_accepted : (translation_of (encode_translation to_class) ≡ value to_class) × (all (λ x. ltb x 256) (encode_translation to_class) ≡ true) × (plain to_class.body ≡ true)
-unfolding all any keep first concat_map traverse count_up same_numbers encode_field encode_fields pair_at split_fields fields_of says_over has_over Keyed.risingFrom Keyed.rising entry_key in_range same_range legal_too range_within same_entry range_at range_of arguments_at arguments_of result_is mentions is_in class_is_result clashes range_whole range_in class_of production_of entry_of step_bytes entry_field entries_of encode_language read_all read_operands read_node read_token use_of read_argument read_numbered read_use read_code_level read_level past_levels read_by item_key target_at mapping_of code_at clause_of mapped number_at numbers_of plain_key number_of by_zero plain uses_of read_clause kinds kinds_mapped reaches_target class_kept mapping_fits has_clause has_production clauses_fit code_fits codes_fit well_formed mapping_field numbered_mapping clause_field numbered_clause item_of item_field grouped items_in parts_in parts_of translation_fields encode_translation all_rising translation_of
+unfolding all any keep first concat_map traverse count_up same_numbers encode_field encode_fields pair_at split_fields fields_of says_over has_over Keyed.rising_from Keyed.rising entry_key in_range same_range legal_too range_within same_entry range_at range_of arguments_at arguments_of result_is mentions is_in class_is_result clashes range_whole range_in class_of production_of entry_of step_bytes entry_field entries_of encode_language read_all read_operands read_node read_token use_of read_argument read_numbered read_use read_code_level read_level past_levels read_by item_key target_at mapping_of code_at clause_of mapped number_at numbers_of plain_key number_of by_zero plain uses_of read_clause kinds kinds_mapped reaches_target class_kept mapping_fits has_clause has_production clauses_fit code_fits codes_fit well_formed mapping_field numbered_mapping clause_field numbered_clause item_of item_field grouped items_in parts_in parts_of translation_fields encode_translation all_rising translation_of
 is_accepted = (refl, refl, refl)
 
 -- Numbers that are tested are bytes.

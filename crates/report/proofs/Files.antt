@@ -177,14 +177,14 @@ body_fits c (some l) q d e b = let r = body_from c l d in subst PartFits (some_i
 part_fits : (f : Field) (q : Part) → part_of f ≡ some q → Bytes (contents_of f) → PartFits q
 unfolding part_of
 part_fits (field tag c) q e b =
-    three-tags (eqb tag 0x30) (eqb tag 0x31) (eqb tag 0x32) (language_in (entries_of c)) (body_in (body_of c)) (term_part c) q e
+    three_tags (eqb tag 0x30) (eqb tag 0x31) (eqb tag 0x32) (language_in (entries_of c)) (body_in (body_of c)) (term_part c) q e
     (λ d. language_fits c (entries_of c) q refl d b) (λ d. body_fits c (body_of c) q refl d b) tt
   where
-    three-tags : (t u v : Bool) (x y : Option Part) (z q : Part) → cond t x (cond u y (cond v (some z) none)) ≡ some q
+    three_tags : (t u v : Bool) (x y : Option Part) (z q : Part) → cond t x (cond u y (cond v (some z) none)) ≡ some q
         → (x ≡ some q → PartFits q) → (y ≡ some q → PartFits q) → PartFits z → PartFits q
-    three-tags true u v x y z q e f g h = f e
-    three-tags false true v x y z q e f g h = g e
-    three-tags false false v x y z q e f g h = cond_has PartFits v z q h e
+    three_tags true u v x y z q e f g h = f e
+    three_tags false true v x y z q e f g h = g e
+    three_tags false false v x y z q e f g h = cond_has PartFits v z q h e
 
 languages_fit_lem : (ps : List Part) → Each PartFits ps → Each (Each NumbersFit) (concat_map as_language ps)
 unfolding concat_map

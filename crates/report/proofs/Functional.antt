@@ -10,7 +10,7 @@ use Rattle.format_pack.specs.Terms.{Sort, languages, translations, Term, constan
 use Rattle.reduce_signs.specs.Evaluation.{Constants, Value}
 use Rattle.report.specs.Languages.{IsSum, IsDifference}
 use Rattle.report.specs.Translations.{IsSumX, IsDifferenceX, IsComposition, IsIdentity}
-use Rattle.report.specs.Reduction.{EnvironmentOf, extended, ReducesL, con-l, var-l, res-l, add-l, src-l, tgt-l, let-l, letx-l, ReducesX, con-x, var-x, res-x, add-x, comp-x, idx-x, let-x, letx-x}
+use Rattle.report.specs.Reduction.{EnvironmentOf, extended, ReducesL, con_l, var_l, res_l, add_l, src_l, tgt_l, let_l, letx_l, ReducesX, con_x, var_x, res_x, add_x, comp_x, idx_x, let_x, letx_x}
 use Rattle.report.proofs.Languages.{sum_one, difference_one}
 use Rattle.report.proofs.Sums.{same_parts, sum_one_x}
 use Rattle.report.proofs.Compositions.{composition_one}
@@ -70,25 +70,25 @@ Inverted c α β (bind {s} r n x y) v = (a : Value r) × Reduces c r α β x a �
 
 pub inverted_l : {c : Constants} {α : EnvironmentOf Language} {β : EnvironmentOf Translation} {t : Term languages} {l : Language} → ReducesL c α β t l → Inverted c α β t l
 unfolding Inverted
-inverted_l (con-l p w) = p
-inverted_l (var-l p) = p
-inverted_l (res-l {l = a} {m = b} x y p) = (a, b, x, y, p)
-inverted_l (add-l {l = a} {m = b} x y q p) = (a, b, x, y, p)
-inverted_l (src-l {f = f} x p) = (f, x, p)
-inverted_l (tgt-l {f = f} x p) = (f, x, p)
-inverted_l (let-l {l = a} x y) = (a, x, y)
-inverted_l (letx-l {f = f} x y) = (f, x, y)
+inverted_l (con_l p w) = p
+inverted_l (var_l p) = p
+inverted_l (res_l {l = a} {m = b} x y p) = (a, b, x, y, p)
+inverted_l (add_l {l = a} {m = b} x y q p) = (a, b, x, y, p)
+inverted_l (src_l {f = f} x p) = (f, x, p)
+inverted_l (tgt_l {f = f} x p) = (f, x, p)
+inverted_l (let_l {l = a} x y) = (a, x, y)
+inverted_l (letx_l {f = f} x y) = (f, x, y)
 
 pub inverted_x : {c : Constants} {α : EnvironmentOf Language} {β : EnvironmentOf Translation} {t : Term translations} {f : Translation} → ReducesX c α β t f → Inverted c α β t f
 unfolding Inverted
-inverted_x (con-x x y p w) = (x, y, p)
-inverted_x (var-x p) = p
-inverted_x (res-x {f = a} {l = b} x y p) = (a, b, x, y, p)
-inverted_x (add-x {f = a} {g = b} x y q p) = (a, b, x, y, p)
-inverted_x (comp-x {f = a} {g = b} x y q p) = (a, b, x, y, p)
-inverted_x (idx-x {l = a} x p) = (a, x, p)
-inverted_x (let-x {l = a} x y) = (a, x, y)
-inverted_x (letx-x {f = f} x y) = (f, x, y)
+inverted_x (con_x x y p w) = (x, y, p)
+inverted_x (var_x p) = p
+inverted_x (res_x {f = a} {l = b} x y p) = (a, b, x, y, p)
+inverted_x (add_x {f = a} {g = b} x y q p) = (a, b, x, y, p)
+inverted_x (comp_x {f = a} {g = b} x y q p) = (a, b, x, y, p)
+inverted_x (idx_x {l = a} x p) = (a, x, p)
+inverted_x (let_x {l = a} x y) = (a, x, y)
+inverted_x (letx_x {f = f} x y) = (f, x, y)
 
 inverted : (c : Constants) (s : Sort) (α : EnvironmentOf Language) (β : EnvironmentOf Translation) (t : Term s) (v : Value s) → Reduces c s α β t v → Inverted c α β t v
 inverted c languages α β t v d = inverted_l d

@@ -16,7 +16,7 @@ use Rattle.reduce_operators.specs.Operators.{arguments_from, identity_clause, id
 use Rattle.reduce_operators.proofs.IdentitySound.{sound_identity}
 use Rattle.report.specs.Sets.{◌∈◌, here, later}
 use Rattle.report.specs.Languages.{Nonterminal, is_argument, has_production_lem, WellFormedLanguage}
-use Rattle.report.specs.Typing.{Picked, picked_first, picked_later, has-argument, has-node, HaveKinds, have-none, have-more, Mapped}
+use Rattle.report.specs.Typing.{Picked, picked_first, picked_later, has_argument, has_node, HaveKinds, have_none, have_more, Mapped}
 use Rattle.report.specs.Transformation.{Reconstructor}
 use Rattle.report.specs.WellFormed.{FromRegular, KeepsRanges, WellFormed}
 use Rattle.report.specs.Translations.{Holds, gaps_from, Unchanged, same_kind, same_production, IsIdentity}
@@ -41,11 +41,11 @@ unchanged_number a (same_production x) = refl
 gaps_have : (l : Language) (b : Body) (js ks : List ℕ) (m : ℕ) → ((i k : ℕ) → Picked ks (suc i) k → Picked js (suc (m + i)) k)
     → ((k : ℕ) → k ∈ ks → mapping k 0 k ∈ b) → HaveKinds l (Mapped b js) (gaps_from (suc m) ks) ks
 unfolding gaps_from
-gaps_have l b js [] m h same = have-none
+gaps_have l b js [] m h same = have_none
 gaps_have l b js (k ∷ ks) m h same =
     let z : m + 0 ≡ m = omega arith in
     let q : Picked js (suc m) k = subst (λ (x : ℕ). Picked js (suc x) k) z (h 0 k picked_first) in
-    have-more (has-argument (k, q, same k here))
+    have_more (has_argument (k, q, same k here))
     (gaps_have l b js ks (suc m) (λ i x p. let y : m + suc i ≡ suc m + i = omega arith in subst (λ (v : ℕ). Picked js (suc v) x) y (h (suc i) x (picked_later p))) (λ x n. same x (later n)))
 
 module _ (l : Language) (b : Body) (w : WellFormedLanguage l) (d : Holds b (Unchanged l)) where
@@ -62,7 +62,7 @@ module _ (l : Language) (b : Body) (w : WellFormedLanguage l) (d : Holds b (Unch
     entry = x;
     to = to_itself n (has_production_lem {p = p} {ks = ks} x);
     typed =
-        has-node x
+        has_node x
         (gaps_have l b ks ks 0 (λ i k q. let z : i ≡ 0 + i = omega arith in subst (λ (v : ℕ). Picked ks (suc v) k) z q) (λ k m. to_itself k (is_argument x m)));
     stands = (d.members (clause n p 0 (write code (node n p (gaps_from 1 ks))))).1 (same_production x);
   }

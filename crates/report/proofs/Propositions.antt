@@ -2,7 +2,7 @@
 use Rattle.reduce_operators.specs.Operators.{language_union, language_without, translation_union, identity_of}
 use Rattle.report.specs.Propositions.{PropositionB5, PropositionB7, PropositionB9, PropositionC8, LemmaC10, PropositionC11, PropositionC14, PropositionC16, PropositionC18, DefinitionB4, DefinitionB6, DefinitionC13, DefinitionC15, DefinitionC17}
 use Rattle.report.proofs.Languages.{sum_formed, difference_formed, within_kinds, sum_one, difference_one, formed_proper, formed_rises, compatible_fit, union_is, without_is}
-use Rattle.report.proofs.Transformation.{transforms-one, typed-transforms, substituted-has, transformed-has}
+use Rattle.report.proofs.Transformation.{transforms_one, typed_transforms, substituted_has, transformed_has}
 use Rattle.report.proofs.Sums.{sum_formed_x, sum_regular, sum_one_x, compatible_fit_x, union_is_x}
 use Rattle.report.proofs.Compositions.{composition_formed, composition_regular, composition_one}
 use Rattle.report.proofs.Composing.{composition}
@@ -18,13 +18,13 @@ pub proposition_b9 : PropositionB9
 proposition_b9 l m w n x = within_kinds w x
 
 pub proposition_c8 : PropositionC8
-proposition_c8 f w ρ a n h = let b = typed-transforms f w h in (b.0, b.1, λ c x. transforms-one f w b.1 x)
+proposition_c8 f w ρ a n h = let b = typed_transforms f w h in (b.0, b.1, λ c x. transforms_one f w b.1 x)
 
 pub lemma_c10 : LemmaC10
-lemma_c10 l σ ρ θ a b n x h y = substituted-has h x y
+lemma_c10 l σ ρ θ a b n x h y = substituted_has h x y
 
 pub proposition_c11 : PropositionC11
-proposition_c11 f w ρ a b n t x m y = transformed-has f w x y m
+proposition_c11 f w ρ a b n t x m y = transformed_has f w x y m
 
 pub proposition_c14 : PropositionC14
 proposition_c14 f g h c wf wg d = (sum_formed_x f g h c wf wg d, sum_regular f g h c wf wg d)

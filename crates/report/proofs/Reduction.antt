@@ -26,10 +26,10 @@ use Rattle.reduce_terms.proofs.Evaluated.{within, limited_value, language_sum_le
 use Rattle.report.specs.Languages.{WellFormedLanguage, Compatible, IsSum, IsDifference, LiesWithin}
 use Rattle.report.specs.WellFormed.{OneNumber, WellFormed}
 use Rattle.report.specs.Translations.{CompatibleX, IsSumX, IsDifferenceX, IsComposition, IsIdentity}
-use Rattle.report.specs.Reduction.{EnvironmentOf, empty, extended, ReducesL, con-l, var-l, res-l, add-l, src-l, tgt-l, let-l, letx-l, ReducesX, con-x, var-x, res-x, add-x, comp-x, idx-x, let-x, letx-x}
+use Rattle.report.specs.Reduction.{EnvironmentOf, empty, extended, ReducesL, con_l, var_l, res_l, add_l, src_l, tgt_l, let_l, letx_l, ReducesX, con_x, var_x, res_x, add_x, comp_x, idx_x, let_x, letx_x}
 use Rattle.report.specs.Limits.{SmallX, WithinL, WithinX}
 use Rattle.report.proofs.Languages.{sum_one, difference_one, formed_proper, formed_rises, fit_compatible, compatible_fit, union_is, without_is, within_lies, lies_within}
-use Rattle.report.proofs.WellFormed.{fits_formed, formed-fitting, formed-tests}
+use Rattle.report.proofs.WellFormed.{fits_formed, formed_fitting, formed_tests}
 use Rattle.report.proofs.Sums.{sum_one_x, fit_compatible_x, compatible_fit_x, union_is_x}
 use Rattle.report.proofs.Compositions.{composition_one}
 use Rattle.report.proofs.Identities.{identity_one, identity_is}
@@ -119,14 +119,14 @@ join_is_that f g h p q a b k d =
 -- What a reduction of a translation term within the limits gives is small.
 small_x : {c : Constants} {α : EnvironmentOf Language} {β : EnvironmentOf Translation} {t : Term translations} {f : Translation} (d : ReducesX c α β t f) → WithinX d → SmallX f
 unfolding WithinX
-small_x (con-x x y p w) q = q.2
-small_x (var-x p) q = q
-small_x (res-x x y p) q = q.2
-small_x (add-x x y w p) q = q.2
-small_x (comp-x x y w p) q = q.2
-small_x (idx-x x p) q = q.1
-small_x (let-x x y) q = q.2
-small_x (letx-x x y) q = q.2
+small_x (con_x x y p w) q = q.2
+small_x (var_x p) q = q
+small_x (res_x x y p) q = q.2
+small_x (add_x x y w p) q = q.2
+small_x (comp_x x y w p) q = q.2
+small_x (idx_x x p) q = q.1
+small_x (let_x x y) q = q.2
+small_x (letx_x x y) q = q.2
 
 -- A small translation has no code that is too deep.
 pub shallow : (f : Translation) → SmallX f → (a : Item) → Mem a f.body → code_is_deep f a ≡ false
@@ -158,47 +158,47 @@ module _ (c : Constants) where
   mutual
     unfolding WithinL WithinX
 
-    complete-l : {α : EnvironmentOf Language} {β : EnvironmentOf Translation} {t : Term languages} {l : Language} → Everywhere WellFormedLanguage α → Everywhere WellFormed β
+    complete_l : {α : EnvironmentOf Language} {β : EnvironmentOf Translation} {t : Term languages} {l : Language} → Everywhere WellFormedLanguage α → Everywhere WellFormed β
         → (d : ReducesL c α β t l) → WithinL d → evaluate c (both α β) t ≡ value l
-    complete-l {α} {β} {t} {l} g h (con-l {n = n} p w) q = constant_value c (both α β) n l p q
-    complete-l {α} {β} {t} {l} g h (var-l {v = v} p) q = variable_value c (both α β) languages v l p q
-    complete-l {α} {β} {t} {l} g h (res-l {x = x} {y = y} {l = a} {m = b} dx dy p) q =
-        without_value c (both α β) languages x y a l b (complete-l g h dx q.0) (complete-l g h dy q.1)
+    complete_l {α} {β} {t} {l} g h (con_l {n = n} p w) q = constant_value c (both α β) n l p q
+    complete_l {α} {β} {t} {l} g h (var_l {v = v} p) q = variable_value c (both α β) languages v l p q
+    complete_l {α} {β} {t} {l} g h (res_l {x = x} {y = y} {l = a} {m = b} dx dy p) q =
+        without_value c (both α β) languages x y a l b (complete_l g h dx q.0) (complete_l g h dy q.1)
         (difference_one a b (language_without a b) l (without_is a b (formed_proper a (value_l g h dx))) p) q.2
-    complete-l {α} {β} {t} {l} g h (add-l {x = x} {y = y} {l = a} {m = b} dx dy w p) q =
-        add_value c (both α β) languages x y a b l (complete-l g h dx q.0) (complete-l g h dy q.1) (sum_is_that a b l (value_l g h dx) (value_l g h dy) w p) q.2
-    complete-l {α} {β} {t} {l} g h (src-l {x = x} {f = f} dx p) q = source_value c (both α β) x f l (complete-x g h dx q.0) (sym p) q.1
-    complete-l {α} {β} {t} {l} g h (tgt-l {x = x} {f = f} dx p) q = target_value c (both α β) x f l (complete-x g h dx q.0) (sym p) q.1
-    complete-l {α} {β} {t} {l} g h (let-l {v = v} {x = x} {y = y} {l = a} dx dy) q =
-        bind_value c (both α β) languages languages v x y a l (complete-l g h dx q.0)
-        (subst (λ (e : Environment). evaluate c e y ≡ value l) (both_language α β v a) (complete-l (everywhere_bound WellFormedLanguage α v a g (value_l g h dx)) h dy q.1)) q.2
-    complete-l {α} {β} {t} {l} g h (letx-l {w = v} {x = x} {y = y} {f = a} dx dy) q =
-        bind_value c (both α β) languages translations v x y a l (complete-x g h dx q.0)
-        (subst (λ (e : Environment). evaluate c e y ≡ value l) (both_translation α β v a) (complete-l g (everywhere_bound WellFormed β v a h (value_x g h dx)) dy q.1)) q.2
+    complete_l {α} {β} {t} {l} g h (add_l {x = x} {y = y} {l = a} {m = b} dx dy w p) q =
+        add_value c (both α β) languages x y a b l (complete_l g h dx q.0) (complete_l g h dy q.1) (sum_is_that a b l (value_l g h dx) (value_l g h dy) w p) q.2
+    complete_l {α} {β} {t} {l} g h (src_l {x = x} {f = f} dx p) q = source_value c (both α β) x f l (complete_x g h dx q.0) (sym p) q.1
+    complete_l {α} {β} {t} {l} g h (tgt_l {x = x} {f = f} dx p) q = target_value c (both α β) x f l (complete_x g h dx q.0) (sym p) q.1
+    complete_l {α} {β} {t} {l} g h (let_l {v = v} {x = x} {y = y} {l = a} dx dy) q =
+        bind_value c (both α β) languages languages v x y a l (complete_l g h dx q.0)
+        (subst (λ (e : Environment). evaluate c e y ≡ value l) (both_language α β v a) (complete_l (everywhere_bound WellFormedLanguage α v a g (value_l g h dx)) h dy q.1)) q.2
+    complete_l {α} {β} {t} {l} g h (letx_l {w = v} {x = x} {y = y} {f = a} dx dy) q =
+        bind_value c (both α β) languages translations v x y a l (complete_x g h dx q.0)
+        (subst (λ (e : Environment). evaluate c e y ≡ value l) (both_translation α β v a) (complete_l g (everywhere_bound WellFormed β v a h (value_x g h dx)) dy q.1)) q.2
 
-    complete-x : {α : EnvironmentOf Language} {β : EnvironmentOf Translation} {t : Term translations} {f : Translation} → Everywhere WellFormedLanguage α → Everywhere WellFormed β
+    complete_x : {α : EnvironmentOf Language} {β : EnvironmentOf Translation} {t : Term translations} {f : Translation} → Everywhere WellFormedLanguage α → Everywhere WellFormed β
         → (d : ReducesX c α β t f) → WithinX d → evaluate c (both α β) t ≡ value f
-    complete-x {α} {β} {t} {f} g h (con-x {x = x} {y = y} {n = n} dx dy p w) q =
-        make_value c (both α β) x y n f (complete-l g h dx q.0) (complete-l g h dy q.1) p (formed-tests f w (shallow f q.2)) q.2
-    complete-x {α} {β} {t} {f} g h (var-x {w = v} p) q = variable_value c (both α β) translations v f p q
-    complete-x {α} {β} {t} {f} g h (res-x {x = x} {y = y} {f = a} {l = b} dx dy p) q =
-        without_value c (both α β) translations x y a f b (complete-x g h dx q.0) (complete-l g h dy q.1)
+    complete_x {α} {β} {t} {f} g h (con_x {x = x} {y = y} {n = n} dx dy p w) q =
+        make_value c (both α β) x y n f (complete_l g h dx q.0) (complete_l g h dy q.1) p (formed_tests f w (shallow f q.2)) q.2
+    complete_x {α} {β} {t} {f} g h (var_x {w = v} p) q = variable_value c (both α β) translations v f p q
+    complete_x {α} {β} {t} {f} g h (res_x {x = x} {y = y} {f = a} {l = b} dx dy p) q =
+        without_value c (both α β) translations x y a f b (complete_x g h dx q.0) (complete_l g h dy q.1)
         (difference_one_x a b (translation_without a b) f (without_is_x a b (value_x g h dx)) p) q.2
-    complete-x {α} {β} {t} {f} g h (add-x {x = x} {y = y} {f = a} {g = b} dx dy w p) q =
-        add_value c (both α β) translations x y a b f (complete-x g h dx q.0) (complete-x g h dy q.1) (sum_is_that_x a b f (value_x g h dx) (value_x g h dy) w p) q.2
-    complete-x {α} {β} {t} {f} g h (comp-x {x = x} {y = y} {f = a} {g = b} dx dy w p) q =
+    complete_x {α} {β} {t} {f} g h (add_x {x = x} {y = y} {f = a} {g = b} dx dy w p) q =
+        add_value c (both α β) translations x y a b f (complete_x g h dx q.0) (complete_x g h dy q.1) (sum_is_that_x a b f (value_x g h dx) (value_x g h dy) w p) q.2
+    complete_x {α} {β} {t} {f} g h (comp_x {x = x} {y = y} {f = a} {g = b} dx dy w p) q =
         let wa = value_x g h dx in
         let wb = value_x g h dy in
-        join_value c (both α β) x y a b f (complete-x g h dx q.0) (complete-x g h dy q.1)
-        (join_is_that a b f wa wb (formed-fitting a wa (shallow a (small_x dx q.0))) (formed-fitting b wb (shallow b (small_x dy q.1))) w p) q.2
-    complete-x {α} {β} {t} {f} g h (idx-x {x = x} {l = a} dx p) q =
-        identity_value c (both α β) x a f (complete-l g h dx q.0) (identity_one a (identity_of a) f (identity_is a (value_l g h dx)) p) q.1
-    complete-x {α} {β} {t} {f} g h (let-x {v = v} {x = x} {y = y} {l = a} dx dy) q =
-        bind_value c (both α β) translations languages v x y a f (complete-l g h dx q.0)
-        (subst (λ (e : Environment). evaluate c e y ≡ value f) (both_language α β v a) (complete-x (everywhere_bound WellFormedLanguage α v a g (value_l g h dx)) h dy q.1)) q.2
-    complete-x {α} {β} {t} {f} g h (letx-x {w = v} {x = x} {y = y} {f = a} dx dy) q =
-        bind_value c (both α β) translations translations v x y a f (complete-x g h dx q.0)
-        (subst (λ (e : Environment). evaluate c e y ≡ value f) (both_translation α β v a) (complete-x g (everywhere_bound WellFormed β v a h (value_x g h dx)) dy q.1)) q.2
+        join_value c (both α β) x y a b f (complete_x g h dx q.0) (complete_x g h dy q.1)
+        (join_is_that a b f wa wb (formed_fitting a wa (shallow a (small_x dx q.0))) (formed_fitting b wb (shallow b (small_x dy q.1))) w p) q.2
+    complete_x {α} {β} {t} {f} g h (idx_x {x = x} {l = a} dx p) q =
+        identity_value c (both α β) x a f (complete_l g h dx q.0) (identity_one a (identity_of a) f (identity_is a (value_l g h dx)) p) q.1
+    complete_x {α} {β} {t} {f} g h (let_x {v = v} {x = x} {y = y} {l = a} dx dy) q =
+        bind_value c (both α β) translations languages v x y a f (complete_l g h dx q.0)
+        (subst (λ (e : Environment). evaluate c e y ≡ value f) (both_language α β v a) (complete_x (everywhere_bound WellFormedLanguage α v a g (value_l g h dx)) h dy q.1)) q.2
+    complete_x {α} {β} {t} {f} g h (letx_x {w = v} {x = x} {y = y} {f = a} dx dy) q =
+        bind_value c (both α β) translations translations v x y a f (complete_x g h dx q.0)
+        (subst (λ (e : Environment). evaluate c e y ≡ value f) (both_translation α β v a) (complete_x g (everywhere_bound WellFormed β v a h (value_x g h dx)) dy q.1)) q.2
 
 -- A reduction within the limits, of either sort.
 abbrev pub Derived : Constants → EnvironmentOf Language → EnvironmentOf Translation → (s : Sort) → Term s → Value s → Type 0
@@ -227,8 +227,8 @@ module _ (c : Constants) (α : EnvironmentOf Language) (β : EnvironmentOf Trans
   res_sound : (s : Sort) (x : Term s) (y : Term languages) (v w : Value s) (l : Language) → Formed s v → without_of s v l ≡ w → exceeds s w ≡ false
       → Derived c α β s x v → Derived c α β languages y l → Derived c α β s (without x y) w
   unfolding WithinL
-  res_sound languages x y v w l g q h dx dy = (res-l dx.0 dy.0 (subst (IsDifference v l) q (without_is v l (formed_proper v g))), (dx.1, dy.1, h))
-  res_sound translations x y v w l g q h dx dy = (res-x dx.0 dy.0 (subst (IsDifferenceX v l) q (without_is_x v l g)), (dx.1, dy.1, h))
+  res_sound languages x y v w l g q h dx dy = (res_l dx.0 dy.0 (subst (IsDifference v l) q (without_is v l (formed_proper v g))), (dx.1, dy.1, h))
+  res_sound translations x y v w l g q h dx dy = (res_x dx.0 dy.0 (subst (IsDifferenceX v l) q (without_is_x v l g)), (dx.1, dy.1, h))
 
   add_sound : (s : Sort) (x y : Term s) (v w u : Value s) → Formed s v → Formed s w → sum_of s v w ≡ value u → exceeds s u ≡ false
       → Derived c α β s x v → Derived c α β s y w → Derived c α β s (sum x y) u
@@ -236,11 +236,11 @@ module _ (c : Constants) (α : EnvironmentOf Language) (β : EnvironmentOf Trans
   add_sound languages x y v w u g k q h dx dy =
       let r = language_sum_lem v w u q in
       let f = fit_languages v w r.0 in
-      (add-l dx.0 dy.0 (fit_compatible v w f) (subst (IsSum v w) r.1 (union_is v w (formed_rises v g) (formed_rises w k) f)), (dx.1, dy.1, h))
+      (add_l dx.0 dy.0 (fit_compatible v w f) (subst (IsSum v w) r.1 (union_is v w (formed_rises v g) (formed_rises w k) f)), (dx.1, dy.1, h))
   add_sound translations x y v w u g k q h dx dy =
       let r = translation_sum_lem v w u q in
       let f = fit_translations v w r.0 in
-      (add-x dx.0 dy.0 (fit_compatible_x v w g k f) (subst (IsSumX v w) r.1 (union_is_x v w g k f)), (dx.1, dy.1, h))
+      (add_x dx.0 dy.0 (fit_compatible_x v w g k f) (subst (IsSumX v w) r.1 (union_is_x v w g k f)), (dx.1, dy.1, h))
 
   join_sound : (x y : Term translations) (f g h : Translation) → WellFormed f → WellFormed g → translation_join f g ≡ value h → translation_exceeds h ≡ false
       → Derived c α β translations x f → Derived c α β translations y g → Derived c α β translations (join x y) h
@@ -248,30 +248,30 @@ module _ (c : Constants) (α : EnvironmentOf Language) (β : EnvironmentOf Trans
   join_sound x y f g h p q t z dx dy =
       let r = translation_join_lem f g h t in
       let l = within_lies g.target f.source r.0 in
-      let d = joined_is f g p q (formed-fitting f p (shallow f (small_x dx.0 dx.1))) (formed-fitting g q (shallow g (small_x dy.0 dy.1))) l in
-      (comp-x dx.0 dy.0 l (subst (IsComposition f g) r.1 d), (dx.1, dy.1, z))
+      let d = joined_is f g p q (formed_fitting f p (shallow f (small_x dx.0 dx.1))) (formed_fitting g q (shallow g (small_x dy.0 dy.1))) l in
+      (comp_x dx.0 dy.0 l (subst (IsComposition f g) r.1 d), (dx.1, dy.1, z))
 
   make_sound : (x y : Term languages) (n : ℕ) (f : Translation) → Derived c α β languages x f.source → Derived c α β languages y f.target
       → get_elem? c.bodies n ≡ some f.body → WellFormed f → translation_exceeds f ≡ false → Derived c α β translations (make x y n) f
   unfolding WithinX
-  make_sound x y n f dx dy p w h = (con-x dx.0 dy.0 p w, (dx.1, dy.1, h))
+  make_sound x y n f dx dy p w h = (con_x dx.0 dy.0 p w, (dx.1, dy.1, h))
 
   let_sound : (s : Sort) (n : ℕ) (x : Term languages) (y : Term s) (a : Language) (v : Value s) → exceeds s v ≡ false
       → Derived c α β languages x a → Derived c (extended α n a) β s y v → Derived c α β s (bind languages n x y) v
   unfolding WithinL
-  let_sound languages n x y a v h dx dy = (let-l dx.0 dy.0, (dx.1, dy.1, h))
-  let_sound translations n x y a v h dx dy = (let-x dx.0 dy.0, (dx.1, dy.1, h))
+  let_sound languages n x y a v h dx dy = (let_l dx.0 dy.0, (dx.1, dy.1, h))
+  let_sound translations n x y a v h dx dy = (let_x dx.0 dy.0, (dx.1, dy.1, h))
 
   letx_sound : (s : Sort) (n : ℕ) (x : Term translations) (y : Term s) (a : Translation) (v : Value s) → exceeds s v ≡ false
       → Derived c α β translations x a → Derived c α (extended β n a) s y v → Derived c α β s (bind translations n x y) v
   unfolding WithinL
-  letx_sound languages n x y a v h dx dy = (letx-l dx.0 dy.0, (dx.1, dy.1, h))
-  letx_sound translations n x y a v h dx dy = (letx-x dx.0 dy.0, (dx.1, dy.1, h))
+  letx_sound languages n x y a v h dx dy = (letx_l dx.0 dy.0, (dx.1, dy.1, h))
+  letx_sound translations n x y a v h dx dy = (letx_x dx.0 dy.0, (dx.1, dy.1, h))
 
 var_sound : (c : Constants) (e : Environment) (s : Sort) (n : ℕ) (v : Value s) → e s n ≡ some v → exceeds s v ≡ false → Derived c (e languages) (e translations) s (variable n) v
 unfolding WithinL
-var_sound c e languages n v p h = (var-l p, h)
-var_sound c e translations n v p h = (var-x p, h)
+var_sound c e languages n v p h = (var_l p, h)
+var_sound c e translations n v p h = (var_x p, h)
 
 -- What a pack in bytes with number 0 only holds: well-formed languages, and bodies in order whose codes are bytes.
 pub record BodyFits (b : Body) : Type 0 where
@@ -291,17 +291,17 @@ sound c k e g h (constant n) v q =
     let a = there_step TermRefused (get_elem? c.languages n) (limited languages) q in
     let r = limited_small languages a.0 v a.2 in
     let p : get_elem? c.languages n ≡ some v = a.1 ∙ ap some r.0 in
-    (con-l p (k.languages n v p), r.1)
+    (con_l p (k.languages n v p), r.1)
 sound c k e g h (source_of x) v q =
     let a = step_value (evaluate c e x) _ q in
     let r = limited_small languages _ v a.2 in
     let d = sound c k e g h x a.0 a.1 in
-    (src-l d.0 (sym r.0), (d.1, r.1))
+    (src_l d.0 (sym r.0), (d.1, r.1))
 sound c k e g h (target_of x) v q =
     let a = step_value (evaluate c e x) _ q in
     let r = limited_small languages _ v a.2 in
     let d = sound c k e g h x a.0 a.1 in
-    (tgt-l d.0 (sym r.0), (d.1, r.1))
+    (tgt_l d.0 (sym r.0), (d.1, r.1))
 sound c k e g h (make x y n) v q =
     let a = step_value (evaluate c e x) _ q in
     let b = step_value (evaluate c e y) _ a.2 in
@@ -331,7 +331,7 @@ sound c k e g h (identity x) v q =
     let a = step_value (evaluate c e x) _ q in
     let r = limited_small translations _ v a.2 in
     let d = sound c k e g h x a.0 a.1 in
-    (idx-x d.0 (subst (IsIdentity a.0) r.0 (identity_is a.0 (value_l g h d.0))), (d.1, r.1))
+    (idx_x d.0 (subst (IsIdentity a.0) r.0 (identity_is a.0 (value_l g h d.0))), (d.1, r.1))
 sound c k e g h (variable {s} n) v q =
     let a = there_step UnboundVariable (e s n) (limited s) q in
     let r = limited_small s a.0 v a.2 in
@@ -378,5 +378,5 @@ pub evaluate_reduces : (c : Constants) → ConstantsFit c → (t : Term translat
     → (evaluate c nothing_bound t ≡ value f) ↔ ((d : ReducesX c empty empty t f) × WithinX d)
 evaluate_reduces c k t f = (
   λ q. sound c k nothing_bound (nowhere WellFormedLanguage) (nowhere WellFormed) t f q,
-  λ d. subst (λ (e : Environment). evaluate c e t ≡ value f) both_empty (complete-x c (nowhere WellFormedLanguage) (nowhere WellFormed) d.0 d.1),
+  λ d. subst (λ (e : Environment). evaluate c e t ≡ value f) both_empty (complete_x c (nowhere WellFormedLanguage) (nowhere WellFormed) d.0 d.1),
 )

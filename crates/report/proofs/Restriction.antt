@@ -9,8 +9,8 @@ use Rattle.tree_reader.specs.Code.{Code, node, argument, Codes, cons}
 use Rattle.format_translation.specs.Translation.{Item, mapping, clause, Translation}
 use Rattle.report.specs.Sets.{◌∈◌}
 use Rattle.report.specs.Languages.{IsDifference}
-use Rattle.report.specs.Typing.{Picked, picked_first, picked_later, Gaps, HasKind, has-argument, has-token, has-node, HaveKinds, have-none, have-more}
-use Rattle.report.specs.Transformation.{Fillings, Substitutes, substitutes-node, substitutes-token, substitutes-argument, SubstitutesAll, substitutes-none, substitutes-more, At, at_first, at_later, Reconstructor, Transforms, transforms-node, transforms-argument, TransformsAll, transforms-none, transforms-more}
+use Rattle.report.specs.Typing.{Picked, picked_first, picked_later, Gaps, HasKind, has_argument, has_token, has_node, HaveKinds, have_none, have_more}
+use Rattle.report.specs.Transformation.{Fillings, Substitutes, substitutes_node, substitutes_token, substitutes_argument, SubstitutesAll, substitutes_none, substitutes_more, At, at_first, at_later, Reconstructor, Transforms, transforms_node, transforms_argument, TransformsAll, transforms_none, transforms_more}
 use Rattle.report.specs.WellFormed.{WellFormed}
 use Rattle.report.specs.Translations.{Holds, ItemOf, kind_of, production_of_lem, IsDifferenceX, Composed, composed_kind, composed_code, IsComposition, gaps_from, same_kind, IsIdentity}
 use Rattle.report.proofs.Sets.{in_mem}
@@ -23,16 +23,16 @@ use Rattle.report.proofs.WellFormed.{mapping_zero, clause_zero}
 -- Gaps in order are transformed to themselves, and to nothing else.
 gaps_transform : (f : Translation) (m : ℕ) (ks : List ℕ) → TransformsAll f (gaps_from m ks) (gaps_from m ks)
 unfolding gaps_from
-gaps_transform f m [] = transforms-none
-gaps_transform f m (k ∷ ks) = transforms-more transforms-argument (gaps_transform f (suc m) ks)
+gaps_transform f m [] = transforms_none
+gaps_transform f m (k ∷ ks) = transforms_more transforms_argument (gaps_transform f (suc m) ks)
 
 argument_stays : {f : Translation} {i : ℕ} {b : Code} → Transforms f (argument i 0) b → b ≡ argument i 0
-argument_stays transforms-argument = refl
+argument_stays transforms_argument = refl
 
 gaps_stay : (f : Translation) (m : ℕ) (ks : List ℕ) (u : Codes) → TransformsAll f (gaps_from m ks) u → u ≡ gaps_from m ks
 unfolding gaps_from
-gaps_stay f m [] u transforms-none = refl
-gaps_stay f m (k ∷ ks) u (transforms-more {u = v} x xs) = λ i. cons (argument_stays x i) (gaps_stay f (suc m) ks v xs i)
+gaps_stay f m [] u transforms_none = refl
+gaps_stay f m (k ∷ ks) u (transforms_more {u = v} x xs) = λ i. cons (argument_stays x i) (gaps_stay f (suc m) ks v xs i)
 
 -- What stands among them at a place is the argument of that place.
 gap_at : (ks : List ℕ) (m i : ℕ) (a : Code) → At (gaps_from (suc m) ks) (suc i) a → a ≡ argument (suc (m + i)) 0
@@ -73,25 +73,25 @@ at_place ks (suc i) a x = let z : suc (0 + i) ≡ suc i = omega arith in gap_at 
 -- Where each gap is filled by itself, a code stays itself.
 module _ {ρ : Fillings} (h : (i : ℕ) (a : Code) → ρ i a → a ≡ argument i 0) where
   mutual
-    substitutes-same : {a b : Code} → Substitutes ρ a b → b ≡ a
-    substitutes-same (substitutes-node {n = n} {p = p} x) = ap (node n p) (substitutes-all-same x)
-    substitutes-same substitutes-token = refl
-    substitutes-same (substitutes-argument {i = i} {a = a} r) = h i a r
+    substitutes_same : {a b : Code} → Substitutes ρ a b → b ≡ a
+    substitutes_same (substitutes_node {n = n} {p = p} x) = ap (node n p) (substitutes_all_same x)
+    substitutes_same substitutes_token = refl
+    substitutes_same (substitutes_argument {i = i} {a = a} r) = h i a r
 
-    substitutes-all-same : {t u : Codes} → SubstitutesAll ρ t u → u ≡ t
-    substitutes-all-same substitutes-none = refl
-    substitutes-all-same (substitutes-more x xs) = λ i. cons (substitutes-same x i) (substitutes-all-same xs i)
+    substitutes_all_same : {t u : Codes} → SubstitutesAll ρ t u → u ≡ t
+    substitutes_all_same substitutes_none = refl
+    substitutes_all_same (substitutes_more x xs) = λ i. cons (substitutes_same x i) (substitutes_all_same xs i)
 
 module _ {l : Language} {σ : Gaps} {ρ : Fillings} (h : (i k : ℕ) → σ i k → ρ i (argument i 0)) where
   mutual
-    same-substitutes : {a : Code} {k : ℕ} → HasKind l σ a k → Substitutes ρ a a
-    same-substitutes (has-argument {i = i} {n = n} r) = substitutes-argument (h i n r)
-    same-substitutes (has-token x e) = substitutes-token
-    same-substitutes (has-node x hs) = substitutes-node (same-all-substitutes hs)
+    same_substitutes : {a : Code} {k : ℕ} → HasKind l σ a k → Substitutes ρ a a
+    same_substitutes (has_argument {i = i} {n = n} r) = substitutes_argument (h i n r)
+    same_substitutes (has_token x e) = substitutes_token
+    same_substitutes (has_node x hs) = substitutes_node (same_all_substitutes hs)
 
-    same-all-substitutes : {t : Codes} {ks : List ℕ} → HaveKinds l σ t ks → SubstitutesAll ρ t t
-    same-all-substitutes have-none = substitutes-none
-    same-all-substitutes (have-more x xs) = substitutes-more (same-substitutes x) (same-all-substitutes xs)
+    same_all_substitutes : {t : Codes} {ks : List ℕ} → HaveKinds l σ t ks → SubstitutesAll ρ t t
+    same_all_substitutes have_none = substitutes_none
+    same_all_substitutes (have_more x xs) = substitutes_more (same_substitutes x) (same_all_substitutes xs)
 
 place_at : (ks : List ℕ) (i k : ℕ) → Picked ks i k → At (gaps_from 1 ks) i (argument i 0)
 place_at ks zero k p = absurd (picked_some p refl)
@@ -101,12 +101,12 @@ place_at ks (suc i) k p = let z : suc (0 + i) ≡ suc i = omega arith in subst (
 pub order_transforms : (f : Translation) (w : WellFormed f) {n p : ℕ} {ks : List ℕ} {b : Code} → production n p ks ∈ f.source → Reconstructor f n p b → Transforms f (node n p (gaps_from 1 ks)) b
 order_transforms f w {ks = ks} m r =
     let e : r.arguments ≡ ks = w.source.one_production r.entry m in
-    transforms-node (gaps_transform f 1 ks) r (same-substitutes (λ i k q. place_at ks i q.0 (subst (λ (js : List ℕ). Picked js i q.0) e q.1)) r.typed)
+    transforms_node (gaps_transform f 1 ks) r (same_substitutes (λ i k q. place_at ks i q.0 (subst (λ (js : List ℕ). Picked js i q.0) e q.1)) r.typed)
 
 pub transforms_order : (f : Translation) {n p : ℕ} (ks : List ℕ) {b : Code} → Transforms f (node n p (gaps_from 1 ks)) b → Reconstructor f n p b
-transforms_order f {n} {p} ks {b} (transforms-node {u = u} {a = a} ts r q) =
+transforms_order f {n} {p} ks {b} (transforms_node {u = u} {a = a} ts r q) =
     let e = gaps_stay f 1 ks u ts in
-    let z : b ≡ a = substitutes-same (λ i c x. at_place ks i c x) (rw e at q) in
+    let z : b ≡ a = substitutes_same (λ i c x. at_place ks i c x) (rw e at q) in
     rw z r
 
 module _ (f : Translation) (w : WellFormed f) (l : Language) (i j : Translation) (di : IsIdentity f.source i) (dj : IsDifferenceX i l j) where

@@ -20,14 +20,14 @@ use Rattle.reduce_operators.specs.Inner.Paired.{reached, paired_item}
 use Rattle.reduce_operators.proofs.JoinRises.{mem_join, join_cases, joined_rises}
 use Rattle.report.specs.Sets.{◌∈◌}
 use Rattle.report.specs.Languages.{LiesWithin}
-use Rattle.report.specs.Typing.{Picked, picked_first, picked_later, Gaps, HasKind, has-argument, has-token, has-node, HaveKinds, have-none, have-more}
-use Rattle.report.specs.Transformation.{Fillings, Substitutes, substitutes-node, substitutes-token, substitutes-argument, SubstitutesAll, substitutes-none, substitutes-more, At, at_first, at_later, Reconstructor, Transforms, transforms-node, transforms-token, transforms-argument, TransformsAll, transforms-none, transforms-more}
+use Rattle.report.specs.Typing.{Picked, picked_first, picked_later, Gaps, HasKind, has_argument, has_token, has_node, HaveKinds, have_none, have_more}
+use Rattle.report.specs.Transformation.{Fillings, Substitutes, substitutes_node, substitutes_token, substitutes_argument, SubstitutesAll, substitutes_none, substitutes_more, At, at_first, at_later, Reconstructor, Transforms, transforms_node, transforms_token, transforms_argument, TransformsAll, transforms_none, transforms_more}
 use Rattle.report.specs.WellFormed.{WellFormed}
 use Rattle.report.specs.Translations.{Composed, composed_kind, composed_code, IsComposition}
 use Rattle.report.proofs.Sets.{mem_in, in_mem}
-use Rattle.report.proofs.Typing.{has-larger}
+use Rattle.report.proofs.Typing.{has_larger}
 use Rattle.report.proofs.Languages.{within_kinds}
-use Rattle.report.proofs.Transformation.{transforms-one}
+use Rattle.report.proofs.Transformation.{transforms_one}
 use Rattle.report.proofs.WellFormed.{clause_reconstructs, body_rises, mapping_zero, clause_zero, formed_bytes}
 
 -- Codes run one by one.
@@ -38,8 +38,8 @@ runs c (cons a t) = cons (run c 0 a) (runs c t)
 at_run : (c : Clauses) {l : Language} {ρ : Gaps} {ts : Codes} {ks : List ℕ} {i k : ℕ} → HaveKinds l ρ ts ks → Picked ks i k
     → At (runs c ts) i (from_one (λ i by. run_operand c ts i by) i 0)
 unfolding run from_one
-at_run c (have-more x xs) picked_first = at_first
-at_run c (have-more x xs) (picked_later p) = at_later (at_run c xs p)
+at_run c (have_more x xs) picked_first = at_first
+at_run c (have_more x xs) (picked_later p) = at_later (at_run c xs p)
 
 -- A code is substituted by what the project puts in.
 module _ {l : Language} {σ : Gaps} {ρ : Fillings} (s : Replacing) (h : (i k : ℕ) → σ i k → ρ i (s i 0)) where
@@ -47,13 +47,13 @@ module _ {l : Language} {σ : Gaps} {ρ : Fillings} (s : Replacing) (h : (i k : 
     unfolding substitute
 
     replaced : {a : Code} {k : ℕ} → HasKind l σ a k → Substitutes ρ a (substitute s a)
-    replaced (has-argument {i = i} {n = n} r) = substitutes-argument (h i n r)
-    replaced (has-token x e) = substitutes-token
-    replaced (has-node x hs) = substitutes-node (all-replaced hs)
+    replaced (has_argument {i = i} {n = n} r) = substitutes_argument (h i n r)
+    replaced (has_token x e) = substitutes_token
+    replaced (has_node x hs) = substitutes_node (all_replaced hs)
 
-    all-replaced : {t : Codes} {ks : List ℕ} → HaveKinds l σ t ks → SubstitutesAll ρ t (substitute_all s t)
-    all-replaced have-none = substitutes-none
-    all-replaced (have-more x xs) = substitutes-more (replaced x) (all-replaced xs)
+    all_replaced : {t : Codes} {ks : List ℕ} → HaveKinds l σ t ks → SubstitutesAll ρ t (substitute_all s t)
+    all_replaced have_none = substitutes_none
+    all_replaced (have_more x xs) = substitutes_more (replaced x) (all_replaced xs)
 
 module _ (f : Translation) (w : WellFormed f) (fits : Fitting f) where
   -- The code of a source production, as the project has it.
@@ -65,22 +65,22 @@ module _ (f : Translation) (w : WellFormed f) (fits : Fitting f) where
   mutual
     unfolding run
 
-    pub run-transforms : {ρ : Gaps} {a : Code} {k : ℕ} → HasKind f.source ρ a k → Transforms f a (run (clauses_of f) 0 a)
-    run-transforms (has-node {n = n} {p = p} {t = ts} {ks = ks} x hs) =
+    pub run_transforms : {ρ : Gaps} {a : Code} {k : ℕ} → HasKind f.source ρ a k → Transforms f a (run (clauses_of f) 0 a)
+    run_transforms (has_node {n = n} {p = p} {t = ts} {ks = ks} x hs) =
         let r = the_code n p ks x in
         let e : r.arguments ≡ ks = w.source.one_production r.entry x in
-        transforms-node (runs-transform hs) r
+        transforms_node (runs_transform hs) r
         (replaced (from_one (λ i by. run_operand (clauses_of f) ts i by)) (λ i k q. at_run (clauses_of f) hs (subst (λ (js : List ℕ). Picked js i q.0) e q.1)) r.typed)
-    run-transforms (has-token x e) = transforms-token
-    run-transforms (has-argument r) = transforms-argument
+    run_transforms (has_token x e) = transforms_token
+    run_transforms (has_argument r) = transforms_argument
 
-    runs-transform : {ρ : Gaps} {t : Codes} {ks : List ℕ} → HaveKinds f.source ρ t ks → TransformsAll f t (runs (clauses_of f) t)
-    runs-transform have-none = transforms-none
-    runs-transform (have-more x xs) = transforms-more (run-transforms x) (runs-transform xs)
+    runs_transform : {ρ : Gaps} {t : Codes} {ks : List ℕ} → HaveKinds f.source ρ t ks → TransformsAll f t (runs (clauses_of f) t)
+    runs_transform have_none = transforms_none
+    runs_transform (have_more x xs) = transforms_more (run_transforms x) (runs_transform xs)
 
   -- C.9: A ⟶ B exactly if B is the run of A.
   pub transforms_run : {ρ : Gaps} {a : Code} {k : ℕ} → HasKind f.source ρ a k → (b : Code) → Transforms f a b ↔ (b ≡ run (clauses_of f) 0 a)
-  transforms_run h b = (λ t. transforms-one f w t (run-transforms h), λ e. rw e (run-transforms h))
+  transforms_run h b = (λ t. transforms_one f w t (run_transforms h), λ e. rw e (run_transforms h))
 
 -- All numbers are 0, so none is above 15.
 pub numbers_low_lem : (f : Translation) → WellFormed f → numbers_low f ≡ true
@@ -103,7 +103,7 @@ module _ (f g : Translation) (wf : WellFormed f) (wg : WellFormed g) (ff : Fitti
   code_composed n p c m =
       let x = (wg.has_codes n p c (mem_in _ _ m)).2 in
       let r = the_code g wg fg n p x.arguments x.entry in
-      composed_code r (run-transforms f wf ff (has-larger w (λ i t q. q) r.typed))
+      composed_code r (run_transforms f wf ff (has_larger w (λ i t q. q) r.typed))
 
   joined_composed : (a : Item) → Mem a (joined f g).body → Composed f g a
   joined_composed a m = let x = join_cases f g a m in go x.0 x.1 x.2 x.3 x.4
@@ -124,7 +124,7 @@ module _ (f g : Translation) (wf : WellFormed f) (wg : WellFormed g) (ff : Fitti
   composed_joined a (composed_code {n = n} {p = p} {a = b} {b = d} x y) =
       let s = the_code g wg fg n p x.arguments x.entry in
       let q : b ≡ clauses_of g n p 0 = wg.one_code n p b (clauses_of g n p 0) x s in
-      let r : d ≡ run (clauses_of f) 0 (clauses_of g n p 0) = (transforms_run f wf ff (has-larger w (λ i t q. q) s.typed) d).0 (subst (λ (z : Code). Transforms f z d) q y) in
+      let r : d ≡ run (clauses_of f) 0 (clauses_of g n p 0) = (transforms_run f wf ff (has_larger w (λ i t q. q) s.typed) d).0 (subst (λ (z : Code). Transforms f z d) q y) in
       let t = wf.maps.each s.kind (within_kinds w (wg.maps.only n s.kind s.to).1) in
       rw r (mem_join f g (clause n p 0 (write code b)) 0 (in_mem x.stands) (rw (mem_mapped g.body (body_rises g wg) n 0 s.kind (in_mem s.to)) (mem_number f.body s.kind 0 t.0 (in_mem t.1))))
 

@@ -20,7 +20,7 @@ use Rattle.report.specs.Transformation.{Reconstructor}
 use Rattle.report.specs.WellFormed.{FromRegular, Maps, KeepsRanges, Covers, HasCodes, WellFormed}
 use Rattle.report.specs.Translations.{Holds, CompatibleX, IsSumX}
 use Rattle.report.proofs.Sets.{mem_in, in_mem, in_either, either_in, one_way}
-use Rattle.report.proofs.Typing.{has-larger, picked_in}
+use Rattle.report.proofs.Typing.{has_larger, picked_in}
 use Rattle.report.proofs.Languages.{kinds_larger, sum_formed, within_larger, sum_one, in_nonterminal, fit_compatible, compatible_fit, union_is, formed_rises}
 use Rattle.report.proofs.Codes.{written_one}
 use Rattle.report.proofs.WellFormed.{code_one, ranges_produced, body_rises, mapping_zero, clause_zero, mapping_kinds, clause_entry_lem}
@@ -44,7 +44,7 @@ part_reconstructs w x = record {
   kind = x.kind;
   entry = w.source _ x.entry;
   to = w.body _ x.to;
-  typed = has-larger (within_larger w.target) (λ i t q. (q.0, q.1, w.body _ q.2)) x.typed;
+  typed = has_larger (within_larger w.target) (λ i t q. (q.0, q.1, w.body _ q.2)) x.typed;
   stands = w.body _ x.stands;
 }
 
@@ -166,8 +166,8 @@ module _ (f g : Translation) (wf : WellFormed f) (wg : WellFormed g) (h : Transl
       let wu = sum_formed f.target g.target u (fit_compatible f.target g.target h.target) wf.target wg.target s in
       let ty : HasKind g.target (Mapped g.body x.arguments) b x.kind = rw (ks, k) at y.typed in
       written_one u wu f.body (body_rises f wf) x.arguments
-      (has-larger (within_larger (λ a m. (s.members a).1 (inl m))) (λ i t q. q) x.typed)
-      (has-larger (within_larger (λ a m. (s.members a).1 (inr m))) (gaps_alike x.entry) ty) e
+      (has_larger (within_larger (λ a m. (s.members a).1 (inl m))) (λ i t q. q) x.typed)
+      (has_larger (within_larger (λ a m. (s.members a).1 (inr m))) (gaps_alike x.entry) ty) e
 
   pub fit_compatible_x : CompatibleX f g
   fit_compatible_x = record {
@@ -180,10 +180,10 @@ module _ (f g : Translation) (wf : WellFormed f) (wg : WellFormed g) (h : Transl
 -- And to it.
 module _ (f g : Translation) (wf : WellFormed f) (wg : WellFormed g) (h : CompatibleX f g) where
   bytes_alike : (n p : ℕ) (c d : List ℕ) → clause n p 0 c ∈ f.body → clause n p 0 d ∈ g.body → c ≡ d
-  bytes_alike n p c d m k = of-codes (wf.has_codes n p c m) (wg.has_codes n p d k)
+  bytes_alike n p c d m k = of_codes (wf.has_codes n p c m) (wg.has_codes n p d k)
     where
-      of-codes : (a : Code) × (write code a ≡ c) × Reconstructor f n p a → (b : Code) × (write code b ≡ d) × Reconstructor g n p b → c ≡ d
-      of-codes (a, x, r) (b, y, s) = sym x ∙ (ap (write code) (h.same_code r s) ∙ y)
+      of_codes : (a : Code) × (write code a ≡ c) × Reconstructor f n p a → (b : Code) × (write code b ≡ d) × Reconstructor g n p b → c ≡ d
+      of_codes (a, x, r) (b, y, s) = sym x ∙ (ap (write code) (h.same_code r s) ∙ y)
 
   items_agree : Agree item_key f.body g.body
   unfolding item_key plain_key number_of

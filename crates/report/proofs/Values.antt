@@ -11,7 +11,7 @@ use Rattle.format_pack.specs.Terms.{languages, translations, Term}
 use Rattle.reduce_signs.specs.Evaluation.{Constants}
 use Rattle.report.specs.Languages.{WellFormedLanguage}
 use Rattle.report.specs.WellFormed.{WellFormed}
-use Rattle.report.specs.Reduction.{EnvironmentOf, empty, extended, ReducesL, con-l, var-l, res-l, add-l, src-l, tgt-l, let-l, letx-l, ReducesX, con-x, var-x, res-x, add-x, comp-x, idx-x, let-x, letx-x}
+use Rattle.report.specs.Reduction.{EnvironmentOf, empty, extended, ReducesL, con_l, var_l, res_l, add_l, src_l, tgt_l, let_l, letx_l, ReducesX, con_x, var_x, res_x, add_x, comp_x, idx_x, let_x, letx_x}
 use Rattle.report.proofs.Languages.{sum_formed, difference_formed}
 use Rattle.report.proofs.Sums.{sum_formed_x}
 use Rattle.report.proofs.Compositions.{composition_formed}
@@ -36,22 +36,22 @@ everywhere_bound {A} P α n a h g w x e = hides (eqb n w) (α w) e (h w x)
 mutual
   pub value_l : {c : Constants} {α : EnvironmentOf Language} {β : EnvironmentOf Translation} {t : Term languages} {l : Language}
       → Everywhere WellFormedLanguage α → Everywhere WellFormed β → ReducesL c α β t l → WellFormedLanguage l
-  value_l g h (con-l p w) = w
-  value_l g h (var-l {v = v} {l = l} p) = g v l p
-  value_l g h (res-l {l = l} {m = m} {s = s} x y p) = difference_formed l m s (value_l g h x) p
-  value_l g h (add-l {l = l} {m = m} {s = s} x y q p) = sum_formed l m s q (value_l g h x) (value_l g h y) p
-  value_l g h (src-l x p) = subst WellFormedLanguage (sym p) (value_x g h x).source
-  value_l g h (tgt-l x p) = subst WellFormedLanguage (sym p) (value_x g h x).target
-  value_l g h (let-l {α = α} {v = v} {l = l} x y) = value_l (everywhere_bound WellFormedLanguage α v l g (value_l g h x)) h y
-  value_l g h (letx-l {β = β} {w = w} {f = f} x y) = value_l g (everywhere_bound WellFormed β w f h (value_x g h x)) y
+  value_l g h (con_l p w) = w
+  value_l g h (var_l {v = v} {l = l} p) = g v l p
+  value_l g h (res_l {l = l} {m = m} {s = s} x y p) = difference_formed l m s (value_l g h x) p
+  value_l g h (add_l {l = l} {m = m} {s = s} x y q p) = sum_formed l m s q (value_l g h x) (value_l g h y) p
+  value_l g h (src_l x p) = subst WellFormedLanguage (sym p) (value_x g h x).source
+  value_l g h (tgt_l x p) = subst WellFormedLanguage (sym p) (value_x g h x).target
+  value_l g h (let_l {α = α} {v = v} {l = l} x y) = value_l (everywhere_bound WellFormedLanguage α v l g (value_l g h x)) h y
+  value_l g h (letx_l {β = β} {w = w} {f = f} x y) = value_l g (everywhere_bound WellFormed β w f h (value_x g h x)) y
 
   pub value_x : {c : Constants} {α : EnvironmentOf Language} {β : EnvironmentOf Translation} {t : Term translations} {f : Translation}
       → Everywhere WellFormedLanguage α → Everywhere WellFormed β → ReducesX c α β t f → WellFormed f
-  value_x g h (con-x x y p w) = w
-  value_x g h (var-x {w = w} {f = f} p) = h w f p
-  value_x g h (res-x {f = f} {h = k} {l = l} x y p) = difference_formed_x f l k (value_x g h x) p
-  value_x g h (add-x {f = a} {g = b} {h = k} x y q p) = sum_formed_x a b k q (value_x g h x) (value_x g h y) p
-  value_x g h (comp-x {f = a} {g = b} {h = k} x y q p) = composition_formed a b k q (value_x g h x) (value_x g h y) p
-  value_x g h (idx-x {l = l} {h = k} x p) = identity_formed l k (value_l g h x) p
-  value_x g h (let-x {α = α} {v = v} {l = l} x y) = value_x (everywhere_bound WellFormedLanguage α v l g (value_l g h x)) h y
-  value_x g h (letx-x {β = β} {w = w} {f = f} x y) = value_x g (everywhere_bound WellFormed β w f h (value_x g h x)) y
+  value_x g h (con_x x y p w) = w
+  value_x g h (var_x {w = w} {f = f} p) = h w f p
+  value_x g h (res_x {f = f} {h = k} {l = l} x y p) = difference_formed_x f l k (value_x g h x) p
+  value_x g h (add_x {f = a} {g = b} {h = k} x y q p) = sum_formed_x a b k q (value_x g h x) (value_x g h y) p
+  value_x g h (comp_x {f = a} {g = b} {h = k} x y q p) = composition_formed a b k q (value_x g h x) (value_x g h y) p
+  value_x g h (idx_x {l = l} {h = k} x p) = identity_formed l k (value_l g h x) p
+  value_x g h (let_x {α = α} {v = v} {l = l} x y) = value_x (everywhere_bound WellFormedLanguage α v l g (value_l g h x)) h y
+  value_x g h (letx_x {β = β} {w = w} {f = f} x y) = value_x g (everywhere_bound WellFormed β w f h (value_x g h x)) y

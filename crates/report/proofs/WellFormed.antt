@@ -25,7 +25,7 @@ use Rattle.format_translation.specs.Running.{read_clause, uses_of, code_levels, 
 use Rattle.format_translation.specs.WellFormed.{well_formed}
 use Rattle.format_translation.proofs.Codec.{item_whole}
 use Rattle.format_translation.proofs.Lookup.{mem_mapping, mem_mapped, mapping_mem}
-use Rattle.format_translation.proofs.Fitting.{Fitting, fit-tests, uses_are, fit_carries, clause_code}
+use Rattle.format_translation.proofs.Fitting.{Fitting, fit_tests, uses_are, fit_carries, clause_code}
 use Rattle.reduce_operators.specs.Limits.{is_deep, code_is_deep}
 use Rattle.reduce_operators.proofs.Proper.{proper_apart, Sound, kinds_below}
 use Rattle.format_translation.proofs.ItemParts.{clause_parts}
@@ -36,7 +36,7 @@ use Rattle.report.specs.WellFormed.{OneNumber, Maps, FromProduced, KeepsRanges, 
 use Rattle.report.proofs.Sets.{mem_in, in_mem, one_of_key}
 use Rattle.report.proofs.Typing.{code_has, code_typed}
 use Rattle.report.proofs.Languages.{nonterminal_in, in_nonterminal, formed_proper, formed_rises, kind_below}
-use Rattle.report.proofs.Codes.{written_one, has-bytes, picked_few}
+use Rattle.report.proofs.Codes.{written_one, has_bytes, picked_few}
 
 -- Items of a body with number 0 only.
 pub mapping_number : (b : Body) → OneNumber b → (k j t : ℕ) → Mem (mapping k j t) b → j ≡ 0
@@ -181,13 +181,13 @@ module _ (f : Translation) (w : WellFormed f) where
         rw (u, t)
         (not_deep (more_levels code f.target us code_levels z x.kind (write code a) (omega arith)) (rw (u, t) at d) big)
 
-    clause-read : (n p : ℕ) (c : List ℕ) → Mem (clause n p 0 c) f.body → (a : Code) × (read_clause f n p 0 c ≡ done a [])
-    clause-read n p c m =
+    clause_read : (n p : ℕ) (c : List ℕ) → Mem (clause n p 0 c) f.body → (a : Code) × (read_clause f n p 0 c ≡ done a [])
+    clause_read n p c m =
         let x = w.has_codes n p c (mem_in _ _ m) in
         (x.0, subst (λ (s : List ℕ). read_clause f n p 0 s ≡ done x.0 []) x.1 (code_read n p x.0 (in_mem x.2.stands) x.2))
 
-    pub formed-fitting : Fitting f
-    formed-fitting = record {
+    pub formed_fitting : Fitting f
+    formed_fitting = record {
       maps = λ k e. let t = w.maps.each k (in_nonterminal f.source k e) in (t.0, in_mem t.1);
       maps_only = λ k j t m.
           let z = mapping_zero k j t m in
@@ -207,7 +207,7 @@ module _ (f : Translation) (w : WellFormed f) where
           ((x.arguments, in_mem x.entry), (x.kind, subst (λ (i : ℕ). Mem (mapping n i x.kind) f.body) (sym z) (in_mem x.to)));
       codes = λ n p j c m.
           let z = clause_zero n p j c m in
-          let x = clause-read n p c (rw z at m) in
+          let x = clause_read n p c (rw z at m) in
           (x.0, subst (λ (i : ℕ). read_clause f n p i c ≡ done x.0 []) (sym z) x.1);
     }
 
@@ -217,11 +217,11 @@ module _ (f : Translation) (w : WellFormed f) where
       target = formed_proper f.target w.target;
       whole = whole_item;
       rises = body_rises;
-      fits = formed-fitting;
+      fits = formed_fitting;
     }
 
-    pub formed-tests : well_formed f ≡ value f
-    formed-tests = fit-tests f (kinds_below f (formed_proper f.source w.source)) body_rises (formed_rises f.source w.source) formed-fitting
+    pub formed_tests : well_formed f ≡ value f
+    formed_tests = fit_tests f (kinds_below f (formed_proper f.source w.source)) body_rises (formed_rises f.source w.source) formed_fitting
 
   -- The bytes of a clause are bytes.
   pub formed_bytes : ByteCodes f
@@ -229,4 +229,4 @@ module _ (f : Translation) (w : WellFormed f) where
       let x = w.has_codes n p c (mem_in _ _ m) in
       let y = x.2 in
       let h = (w.source.writable _ y.entry).2 in
-      subst Bytes x.1 (has-bytes w.target (λ i k q. let z = picked_few q.1 in omega arith) y.typed)
+      subst Bytes x.1 (has_bytes w.target (λ i k q. let z = picked_few q.1 in omega arith) y.typed)

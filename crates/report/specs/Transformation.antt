@@ -15,16 +15,16 @@ mutual
   -- C.7, ρ ⊢ A ▷ A': the substitute relation.
   pub data Substitutes (ρ : Fillings) : Code → Code → Type 0 where
     -- C.7 (i)
-    substitutes-node : {n p : ℕ} {t u : Codes} → SubstitutesAll ρ t u → Substitutes ρ (node n p t) (node n p u)
+    substitutes_node : {n p : ℕ} {t u : Codes} → SubstitutesAll ρ t u → Substitutes ρ (node n p t) (node n p u)
     -- C.7 (ii)
-    substitutes-token : {w : ℕ} → Substitutes ρ (token w) (token w)
+    substitutes_token : {w : ℕ} → Substitutes ρ (token w) (token w)
     -- C.7 (iii)
-    substitutes-argument : {i : ℕ} {a : Code} → ρ i a → Substitutes ρ (argument i 0) a
+    substitutes_argument : {i : ℕ} {a : Code} → ρ i a → Substitutes ρ (argument i 0) a
 
   -- The premise of (i): ρ ⊢ Aᵢ ▷ A'ᵢ for each i.
   pub data SubstitutesAll (ρ : Fillings) : Codes → Codes → Type 0 where
-    substitutes-none : SubstitutesAll ρ nil nil
-    substitutes-more : {a b : Code} {t u : Codes} → Substitutes ρ a b → SubstitutesAll ρ t u → SubstitutesAll ρ (cons a t) (cons b u)
+    substitutes_none : SubstitutesAll ρ nil nil
+    substitutes_more : {a b : Code} {t u : Codes} → Substitutes ρ a b → SubstitutesAll ρ t u → SubstitutesAll ρ (cons a t) (cons b u)
 
 -- C.7 (iv), (i ↦ Aᵢ): the code at place i, counted from 1.
 pub data At : Codes → ℕ → Code → Type 0 where
@@ -45,14 +45,14 @@ mutual
   -- C.7, A ⟶ A' by the reconstructors of f: the transformation relation.
   pub data Transforms (f : Translation) : Code → Code → Type 0 where
     -- C.7 (iv)
-    transforms-node : {n p : ℕ} {t u : Codes} {a b : Code}
+    transforms_node : {n p : ℕ} {t u : Codes} {a b : Code}
         → TransformsAll f t u → Reconstructor f n p a → Substitutes (At u) a b → Transforms f (node n p t) b
     -- C.7 (v)
-    transforms-token : {w : ℕ} → Transforms f (token w) (token w)
+    transforms_token : {w : ℕ} → Transforms f (token w) (token w)
     -- C.7 (vi)
-    transforms-argument : {i : ℕ} → Transforms f (argument i 0) (argument i 0)
+    transforms_argument : {i : ℕ} → Transforms f (argument i 0) (argument i 0)
 
   -- The premise of (iv): Aᵢ ⟶ A'ᵢ for each i.
   pub data TransformsAll (f : Translation) : Codes → Codes → Type 0 where
-    transforms-none : TransformsAll f nil nil
-    transforms-more : {a b : Code} {t u : Codes} → Transforms f a b → TransformsAll f t u → TransformsAll f (cons a t) (cons b u)
+    transforms_none : TransformsAll f nil nil
+    transforms_more : {a b : Code} {t u : Codes} → Transforms f a b → TransformsAll f t u → TransformsAll f (cons a t) (cons b u)

@@ -22,16 +22,16 @@ mutual
   -- C.5, ρ ⊢ A : n over the language l: its three rules.
   pub data HasKind (l : Language) (ρ : Gaps) : Code → ℕ → Type 0 where
     -- C.5, the first rule: ρ(i) = n.
-    has-argument : {i n : ℕ} → ρ i n → HasKind l ρ (argument i 0) n
+    has_argument : {i n : ℕ} → ρ i n → HasKind l ρ (argument i 0) n
     -- C.5, the second: ω ∈ π(n), which is regular.
-    has-token : {w n : ℕ} {c : Range} → class n c ∈ l → in_range c w ≡ true → HasKind l ρ (token w) n
+    has_token : {w n : ℕ} {c : Range} → class n c ∈ l → in_range c w ≡ true → HasKind l ρ (token w) n
     -- C.5, the third: (p, α) ∈ π(n).
-    has-node : {n p : ℕ} {t : Codes} {ks : List ℕ} → production n p ks ∈ l → HaveKinds l ρ t ks → HasKind l ρ (node n p t) n
+    has_node : {n p : ℕ} {t : Codes} {ks : List ℕ} → production n p ks ∈ l → HaveKinds l ρ t ks → HasKind l ρ (node n p t) n
 
   -- The premise of the third rule: ρ ⊢ Aⱼ : α|ʲ for each j, and as many codes as kinds.
   pub data HaveKinds (l : Language) (ρ : Gaps) : Codes → List ℕ → Type 0 where
-    have-none : HaveKinds l ρ nil []
-    have-more : {a : Code} {k : ℕ} {t : Codes} {ks : List ℕ} → HasKind l ρ a k → HaveKinds l ρ t ks → HaveKinds l ρ (cons a t) (k ∷ ks)
+    have_none : HaveKinds l ρ nil []
+    have_more : {a : Code} {k : ℕ} {t : Codes} {ks : List ℕ} → HasKind l ρ a k → HaveKinds l ρ t ks → HaveKinds l ρ (cons a t) (k ∷ ks)
 
 -- τ ∘ ρ: where ρ(i) = n, the kind that n is mapped to.
 abbrev pub Through : Body → Gaps → Gaps

@@ -14,7 +14,7 @@ use Rattle.format_fields.proofs.Split.{byte_in}
 use Rattle.format_fields.proofs.Truth.{by_test}
 use Rattle.format_language.specs.Language.{Language}
 use Rattle.tree_reader.specs.Code.{Code, token, Codes, nil, cons, levels, levels_all}
-use Rattle.tree_reader.specs.Typing.{Uses, Typed, TypedAll, typed-nil, typed-cons}
+use Rattle.tree_reader.specs.Typing.{Uses, Typed, TypedAll, typed_nil, typed_cons}
 use Rattle.tree_reader.specs.Syntax as Meant
 use Rattle.tree_reader.specs.Syntax.{write, write_all}
 use Rattle.tree_reader.specs.declared.node.Syntax.{Syntax}
@@ -36,30 +36,30 @@ nth (cons a ts) (suc i) = nth ts i
 module _ {l : Language} {given : Uses} where
   pub nth_kind : {ts : Codes} {ks : List ℕ} → TypedAll l given ts ks → (i : ℕ) → i < length ks → Typed l given (nth ts i) (get_or ks i 0)
   unfolding nth
-  nth_kind typed-nil i h = absurd (omega arith)
-  nth_kind (typed-cons d ds) zero h = d
-  nth_kind (typed-cons d ds) (suc i) h = nth_kind ds i (omega arith)
+  nth_kind typed_nil i h = absurd (omega arith)
+  nth_kind (typed_cons d ds) zero h = d
+  nth_kind (typed_cons d ds) (suc i) h = nth_kind ds i (omega arith)
 
   pub nth_levels : {ts : Codes} {ks : List ℕ} → TypedAll l given ts ks → (i : ℕ) → i < length ks → levels (nth ts i) ≤ levels_all ts
   unfolding nth levels_all
-  nth_levels typed-nil i h = absurd (omega arith)
-  nth_levels (typed-cons {a = a} {t = t} d ds) zero h = omega arith
-  nth_levels (typed-cons {a = a} {t = t} d ds) (suc i) h = omega (arith, nth_levels ds i (omega arith))
+  nth_levels typed_nil i h = absurd (omega arith)
+  nth_levels (typed_cons {a = a} {t = t} d ds) zero h = omega arith
+  nth_levels (typed_cons {a = a} {t = t} d ds) (suc i) h = omega (arith, nth_levels ds i (omega arith))
 
   pub front_next : (s : Meant.Syntax) {ts : Codes} {ks : List ℕ} → TypedAll l given ts ks → (i : ℕ) → i < length ks
       → length (write_all s (front (suc i) ts)) ≡ length (write_all s (front i ts)) + length (write s (nth ts i))
   unfolding nth front write_all
-  front_next s typed-nil i h = absurd (omega arith)
-  front_next s (typed-cons {a = a} {t = t} d ds) zero h = omega (arith, length-append (write s a) [])
-  front_next s (typed-cons {a = a} {t = t} d ds) (suc i) h =
+  front_next s typed_nil i h = absurd (omega arith)
+  front_next s (typed_cons {a = a} {t = t} d ds) zero h = omega (arith, length-append (write s a) [])
+  front_next s (typed_cons {a = a} {t = t} d ds) (suc i) h =
       omega (arith, length-append (write s a) (write_all s (front (suc i) t)), length-append (write s a) (write_all s (front i t)), front_next s ds i (omega arith))
 
   pub nth_stands : (s : Meant.Syntax) {ts : Codes} {ks : List ℕ} → TypedAll l given ts ks → (i : ℕ) → i < length ks
       → (b : List ℕ) (at : ℕ) → Stands b at (write_all s ts) → Stands b (at + length (write_all s (front i ts))) (write s (nth ts i))
   unfolding nth front write_all
-  nth_stands s typed-nil i h b at z = absurd (omega arith)
-  nth_stands s (typed-cons {a = a} {t = t} d ds) zero h b at z = rw (add-zero at) (stands_both b at (write s a) (write_all s t) z).0
-  nth_stands s (typed-cons {a = a} {t = t} d ds) (suc i) h b at z =
+  nth_stands s typed_nil i h b at z = absurd (omega arith)
+  nth_stands s (typed_cons {a = a} {t = t} d ds) zero h b at z = rw (add-zero at) (stands_both b at (write s a) (write_all s t) z).0
+  nth_stands s (typed_cons {a = a} {t = t} d ds) (suc i) h b at z =
       rw (length-append (write s a) (write_all s (front i t)), ← add_assoc at (length (write s a)) (length (write_all s (front i t))))
       (nth_stands s ds i (omega arith) b (at + length (write s a)) (stands_both b at (write s a) (write_all s t) z).1)
 
@@ -130,8 +130,8 @@ module _ {x : Syntax} {t input ends before : List ℕ} {j : ℕ} {f : Translatio
     few : i < length ks
     few = let n = a.number in omega arith
 
-    pub reached-skip : SkipAsks x t input (get_or before 9 0 + i) p f given (nth ts i) (get_or ks i 0)
-    reached-skip = record {
+    pub reached_skip : SkipAsks x t input (get_or before 9 0 + i) p f given (nth ts i) (get_or ks i 0)
+    reached_skip = record {
       table = a.table;
       term = record {
         typed = nth_kind a.node.typed i few;
@@ -146,15 +146,15 @@ module _ {x : Syntax} {t input ends before : List ℕ} {j : ℕ} {f : Translatio
     more : length (all_bytes x (front (i + 1) ts)) ≡ length (all_bytes x (front i ts)) + length (bytes_of x (nth ts i))
     more = rw (add-one i) (front_next (syntax_of x) a.node.typed i few)
 
-    pub reached-known : {after : List ℕ} {e : ℕ} → get_or state (i + 1) 0 ≢ 0 → after ≡ state → e ≡ get_or state (i + 1) 0 → Reached x t input before after e (i + 1) f given ts ks
-    reached-known {after} {e} k w y = rw w record {
+    pub reached_known : {after : List ℕ} {e : ℕ} → get_or state (i + 1) 0 ≢ 0 → after ≡ state → e ≡ get_or state (i + 1) 0 → Reached x t input before after e (i + 1) f given ts ks
+    reached_known {after} {e} k w y = rw w record {
       at = y ∙ (⊎_elim (λ q. absurd (k q)) (λ q. q) (z.node.known i (omega (arith, find_few))) ∙ ap (λ (m : ℕ). m + length (all_bytes x (front (i + 1) ts))) z.same.start);
       node = z.node;
       same = z.same;
     }
 
-    pub reached-more : {after : List ℕ} {e r : ℕ} → r ≡ p + length (bytes_of x (nth ts i)) → after ≡ set state (i + 1) r → e ≡ r → Reached x t input before after e (i + 1) f given ts ks
-    reached-more {after} {e} {r} k w y =
+    pub reached_more : {after : List ℕ} {e r : ℕ} → r ≡ p + length (bytes_of x (nth ts i)) → after ≡ set state (i + 1) r → e ≡ r → Reached x t input before after e (i + 1) f given ts ks
+    reached_more {after} {e} {r} k w y =
         let s : i < 8 = omega (arith, find_few) in
         let b = z.same.start in
         let c = z.at in

@@ -14,7 +14,7 @@ use Rattle.format_fields.proofs.Truth.{none_some, some_inj, false_true, is_some_
 use Rattle.format_language.specs.Language.{Language, Range, range_of, arguments_of}
 use Rattle.tree_reader.specs.Code as Terms
 use Rattle.tree_reader.specs.Code.{node, token, argument, Codes, nil, cons, levels, levels_all}
-use Rattle.tree_reader.specs.Typing.{Uses, kind_at, Typed, TypedAll, typed-node, typed-token, typed-argument, typed-nil, typed-cons}
+use Rattle.tree_reader.specs.Typing.{Uses, kind_at, Typed, TypedAll, typed_node, typed_token, typed_argument, typed_nil, typed_cons}
 use Rattle.tree_reader.specs.Syntax.{sign, write, write_all, code}
 use Rattle.tree_reader.specs.declared.node.Syntax.{Syntax}
 use Rattle.tree_reader.specs.declared.node.Syntax.TheVariants.{Tree, Code}
@@ -100,14 +100,14 @@ module _ (t : List ℕ) (c stop : ℕ) (l : Language) (r : Uses) where
     pub kind : ℕ
     pub name : ℕ
     pub inner : Codes
-    pub innerKinds : List ℕ
+    pub inner_kinds : List ℕ
     pub rest : Codes
     pub kinds : List ℕ
     pub is : cs ≡ cons (node kind name inner) rest
     pub byte : body_byte t (c + 1) ≡ name
     pub ends : c + 2 ≤ span_entry t c
     pub room : span_entry t c ≤ stop
-    pub row : Row t (c + 2) (span_entry t c) l r inner innerKinds
+    pub row : Row t (c + 2) (span_entry t c) l r inner inner_kinds
     pub behind : Row t (span_entry t c) stop l r rest kinds
 
   -- The next code is a token.
@@ -138,7 +138,7 @@ module _ (t : List ℕ) (c stop : ℕ) (l : Language) (r : Uses) where
           kind = k;
           name = p;
           inner = ts;
-          innerKinds = ks;
+          inner_kinds = ks;
           rest = us;
           kinds = drop 1 js;
           is = refl;
@@ -229,16 +229,16 @@ module _ (t : List ℕ) (c stop : ℕ) (l : Language) (r : Uses) where
       )
 
   next_code : {a : Terms.Code} {k : ℕ} {us : Codes} {js : List ℕ} → Typed l r a k → TypedAll l r us js → Row t c stop l r (cons a us) (k ∷ js) → Next (cons a us)
-  next_code {us = us} {js = js} (typed-node {k = k} {p = p} {t = ts} {ks = ks} e h) hs w = next_node k p ts us ks (k ∷ js) h w hs
-  next_code {us = us} {js = js} (typed-token {v = v} {k = k} e h) hs w = next_token v us (k ∷ js) w hs
-  next_code (typed-argument {i = zero} e) hs w = none_some e
-  next_code {us = us} {js = js} (typed-argument {i = suc i} {j = zero} {k = k} e) hs w = next_plain i k us (k ∷ js) e w hs
-  next_code {us = us} {js = js} (typed-argument {i = suc i} {j = suc m} {k = k} e) hs w = next_numbered i m k us (k ∷ js) e w hs
+  next_code {us = us} {js = js} (typed_node {k = k} {p = p} {t = ts} {ks = ks} e h) hs w = next_node k p ts us ks (k ∷ js) h w hs
+  next_code {us = us} {js = js} (typed_token {v = v} {k = k} e h) hs w = next_token v us (k ∷ js) w hs
+  next_code (typed_argument {i = zero} e) hs w = none_some e
+  next_code {us = us} {js = js} (typed_argument {i = suc i} {j = zero} {k = k} e) hs w = next_plain i k us (k ∷ js) e w hs
+  next_code {us = us} {js = js} (typed_argument {i = suc i} {j = suc m} {k = k} e) hs w = next_numbered i m k us (k ∷ js) e w hs
 
   next_by : {cs : Codes} {js : List ℕ} → TypedAll l r cs js → Row t c stop l r cs js → c < stop → Next cs
   unfolding write
-  next_by typed-nil w h = let e = w.ends in absurd (omega arith)
-  next_by (typed-cons h hs) w i = next_code h hs w
+  next_by typed_nil w h = let e = w.ends in absurd (omega arith)
+  next_by (typed_cons h hs) w i = next_code h hs w
 
   pub next : {cs : Codes} {js : List ℕ} → Row t c stop l r cs js → c < stop → Next cs
   next w h = next_by w.typed w h
@@ -336,15 +336,15 @@ module _ {x : Syntax} {t input ends before state : List ℕ} {c stop left : ℕ}
     nexts : Next t c stop f.target (uses_for f ks) g.rest
     nexts = next t c stop f.target (uses_for f ks) g.asks.row more
 
-    pub next-two : c + 1 < stop
-    next-two = let j = row_two t c stop f.target (uses_for f ks) g.rest g.asks.row more in omega arith
+    pub next_two : c + 1 < stop
+    next_two = let j = row_two t c stop f.target (uses_for f ks) g.rest g.asks.row more in omega arith
 
-    pub next-below : c + 1 < 4096
-    next-below = let i = g.asks.row.inside in let j = row_two t c stop f.target (uses_for f ks) g.rest g.asks.row more in omega arith
+    pub next_below : c + 1 < 4096
+    next_below = let i = g.asks.row.inside in let j = row_two t c stop f.target (uses_for f ks) g.rest g.asks.row more in omega arith
 
     -- Bytes of the body are bytes.
-    pub next-narrow : {b i : ℕ} → b ≡ body_byte t i → c ≤ i → i < stop → b < 256
-    next-narrow {b} {i} e h k = let n = g.asks.row.narrow i h k in omega arith
+    pub next_narrow : {b i : ℕ} → b ≡ body_byte t i → c ≤ i → i < stop → b < 256
+    next_narrow {b} {i} e h k = let n = g.asks.row.narrow i h k in omega arith
 
     -- The rest of the row, behind its next code.
     onward : (state' : List ℕ) (c' : ℕ) (us : Codes) (js : List ℕ) → Node x t input state' f.source given ts ks → Row t c' stop f.target (uses_for f ks) us js
@@ -359,9 +359,9 @@ module _ {x : Syntax} {t input ends before state : List ℕ} {c stop left : ℕ}
       codes = h;
     }
 
-    levels-behind : (a : Terms.Code) (us : Codes) → g.rest ≡ cons a us → (levels a + 2 ≤ left % tree_level) × (levels_all us + 2 ≤ left % tree_level)
+    levels_behind : (a : Terms.Code) (us : Codes) → g.rest ≡ cons a us → (levels a + 2 ≤ left % tree_level) × (levels_all us + 2 ≤ left % tree_level)
     unfolding levels
-    levels-behind a us e =
+    levels_behind a us e =
         let h : levels_all (cons a us) + 2 ≤ left % tree_level = rw e at g.asks.codes in
         (omega arith, omega arith)
 
@@ -372,19 +372,19 @@ module _ {x : Syntax} {t input ends before state : List ℕ} {c stop left : ℕ}
 
       pub argument_some : 2 < left % tree_level
       unfolding levels
-      argument_some = let h = (levels-behind _ used.rest used.is).0 in omega arith
+      argument_some = let h = (levels_behind _ used.rest used.is).0 in omega arith
 
       place_is : used_place t c ≡ used.place
       place_is = let b = used.byte in omega arith
 
-      used-has : (used.place < length ks) × Has f (get_or ks used.place 0) used.by
-      used-has =
+      used_has : (used.place < length ks) × Has f (get_or ks used.place 0) used.by
+      used_has =
           let q = use_kind (mapping_of f.body) ks used.place used.by used.kind used.typed in
           let h = get_at ks used.place q.0 q.1 in
           (h.0, rw h.1 (is_some_lem _ q.2))
 
-      pub argument-asks : ArgumentAsks x t input ends state c (left - 1) f given ts ks
-      argument-asks = record {
+      pub argument_asks : ArgumentAsks x t input ends state c (left - 1) f given ts ks
+      argument_asks = record {
         table = g.asks.table;
         kept = g.asks.kept;
         node = g.asks.node;
@@ -393,23 +393,23 @@ module _ {x : Syntax} {t input ends before state : List ℕ} {c stop left : ℕ}
         more = let h = argument_some in omega arith;
         room = λ z n. let h = used.more n in let i = g.asks.row.inside in omega arith;
         some = let b = used.byte in omega arith;
-        place = rw place_is used-has.0;
-        has = rw (place_is, used.number) used-has.1;
+        place = rw place_is used_has.0;
+        has = rw (place_is, used.number) used_has.1;
       }
 
-      bytes-used : row_bytes x f ts g.rest ≡ bytes_of x (run_operand (clauses_of f) ts (used_place t c) (used_number t c)) ++ row_bytes x f ts used.rest
-      bytes-used = ap (row_bytes x f ts) used.is ∙ rw (place_is, used.number) (row_use x f ts used.place used.by used.rest)
+      bytes_used : row_bytes x f ts g.rest ≡ bytes_of x (run_operand (clauses_of f) ts (used_place t c) (used_number t c)) ++ row_bytes x f ts used.rest
+      bytes_used = ap (row_bytes x f ts) used.is ∙ rw (place_is, used.number) (row_use x f ts used.place used.by used.rest)
 
-      pub argument-turn : {after end : List ℕ} {e : ℕ} → ArgumentGives x t input ends state after c (left - 1) mid end p e
+      pub argument_turn : {after end : List ℕ} {e : ℕ} → ArgumentGives x t input ends state after c (left - 1) mid end p e
           → Going x t input ends before after (c + (sign - 1)) stop left f given ts ks cs o end pos e
-      argument-turn {after} {end} {e} gives =
-          let w = gives f given ts ks argument-asks in
+      argument_turn {after} {end} {e} gives =
+          let w = gives f given ts ks argument_asks in
           rw es record {
             rest = used.rest;
             kinds = used.kinds;
-            asks = onward after (c + (body_byte t c - 1)) used.rest used.kinds w.1 used.row (levels-behind _ used.rest used.is).1;
+            asks = onward after (c + (body_byte t c - 1)) used.rest used.kinds w.1 used.row (levels_behind _ used.rest used.is).1;
             same = same_after g.same w.2;
-            goes = goes_on _ (row_bytes x f ts used.rest) bytes-used end e w.0;
+            goes = goes_on _ (row_bytes x f ts used.rest) bytes_used end e w.0;
           }
 
     -- The next code is a token.
@@ -417,24 +417,24 @@ module _ {x : Syntax} {t input ends before state : List ℕ} {c stop left : ℕ}
       valued : Valued t c stop f.target (uses_for f ks) g.rest
       valued = nexts.2 not-name not-argument
 
-      pub token-three : c + 2 < stop
-      token-three = let w = valued.room in omega arith
+      pub token_three : c + 2 < stop
+      token_three = let w = valued.room in omega arith
 
-      pub token-room : c + 2 < 4096
-      token-room = let i = g.asks.row.inside in let w = valued.room in omega arith
+      pub token_room : c + 2 < 4096
+      token_room = let i = g.asks.row.inside in let w = valued.room in omega arith
 
       module _ {high low : ℕ} (eh : high ≡ body_byte t (c + 1)) (el : low ≡ body_byte t (c + 2)) where
-        bytes-token : row_bytes x f ts g.rest ≡ (sign (syntax_of x) 2 ++ high ∷ low ∷ []) ++ row_bytes x f ts valued.rest
-        bytes-token = ap (row_bytes x f ts) valued.is ∙ row_token x f ts valued.value high low valued.rest (eh ∙ valued.high) (el ∙ valued.low)
+        bytes_token : row_bytes x f ts g.rest ≡ (sign (syntax_of x) 2 ++ high ∷ low ∷ []) ++ row_bytes x f ts valued.rest
+        bytes_token = ap (row_bytes x f ts) valued.is ∙ row_token x f ts valued.value high low valued.rest (eh ∙ valued.high) (el ∙ valued.low)
 
-        pub token-turn : {end : List ℕ} {e : ℕ} → Wrote (sign (syntax_of x) 2 ++ high ∷ low ∷ []) mid end p e
+        pub token_turn : {end : List ℕ} {e : ℕ} → Wrote (sign (syntax_of x) 2 ++ high ∷ low ∷ []) mid end p e
             → Going x t input ends before state (c + 3) stop left f given ts ks cs o end pos e
-        token-turn {end} {e} w = record {
+        token_turn {end} {e} w = record {
           rest = valued.rest;
           kinds = valued.kinds;
-          asks = onward state (c + 3) valued.rest valued.kinds g.asks.node valued.row (levels-behind _ valued.rest valued.is).1;
+          asks = onward state (c + 3) valued.rest valued.kinds g.asks.node valued.row (levels_behind _ valued.rest valued.is).1;
           same = g.same;
-          goes = goes_on _ (row_bytes x f ts valued.rest) bytes-token end e w;
+          goes = goes_on _ (row_bytes x f ts valued.rest) bytes_token end e w;
         }
 
     -- The next code is a production.
@@ -442,18 +442,18 @@ module _ {x : Syntax} {t input ends before state : List ℕ} {c stop left : ℕ}
       named : Named t c stop f.target (uses_for f ks) g.rest
       named = nexts.0 is
 
-      pub named-room : (c + 2 ≤ span_entry t c) × (span_entry t c ≤ stop)
-      named-room = (named.ends, named.room)
+      pub named_room : (c + 2 ≤ span_entry t c) × (span_entry t c ≤ stop)
+      named_room = (named.ends, named.room)
 
       inner_levels : suc (levels_all named.inner) + 2 ≤ left % tree_level
       unfolding levels
-      inner_levels = (levels-behind _ named.rest named.is).0
+      inner_levels = (levels_behind _ named.rest named.is).0
 
       pub named_some : 2 < left % tree_level
       named_some = let h = inner_levels in omega arith
 
-      inner-asks : RowAsks x t input ends state (c + 2) (span_entry t c) (left - 1) f given ts ks named.inner named.innerKinds
-      inner-asks =
+      inner_asks : RowAsks x t input ends state (c + 2) (span_entry t c) (left - 1) f given ts ks named.inner named.innerKinds
+      inner_asks =
           let n = g.asks.nodes in
           let h = inner_levels in
           record {
@@ -466,41 +466,41 @@ module _ {x : Syntax} {t input ends before state : List ℕ} {c stop left : ℕ}
             codes = omega arith;
           }
 
-      pub named-asks : {fin : ℕ} → fin ≡ span_entry t c
+      pub named_asks : {fin : ℕ} → fin ≡ span_entry t c
           → (us : Codes) × (js : List ℕ) × RowAsks x t input ends state (c + 2) fin (left - 1) f given ts ks us js
-      named-asks q = rw q (named.inner, named.innerKinds, inner-asks)
+      named_asks q = rw q (named.inner, named.innerKinds, inner_asks)
 
       module _ {name : ℕ} (en : name ≡ body_byte t (c + 1)) {end : List ℕ} {e : ℕ} (w : Wrote (sign (syntax_of x) 1 ++ name ∷ []) mid end p e) where
-        bytes-name : row_bytes x f ts g.rest ≡ (sign (syntax_of x) 1 ++ name ∷ []) ++ (row_bytes x f ts named.inner ++ row_bytes x f ts named.rest)
-        bytes-name =
+        bytes_name : row_bytes x f ts g.rest ≡ (sign (syntax_of x) 1 ++ name ∷ []) ++ (row_bytes x f ts named.inner ++ row_bytes x f ts named.rest)
+        bytes_name =
             ap (row_bytes x f ts) named.is ∙ rw (en, named.byte) (row_node x f ts named.kind named.name named.inner named.rest)
 
         -- Nothing is behind it: its inner codes are what is left.
-        pub named-last : span_entry t c ≡ stop → Going x t input ends before state (c + 2) stop (left - 1) f given ts ks cs o end pos e
-        named-last q =
+        pub named_last : span_entry t c ≡ stop → Going x t input ends before state (c + 2) stop (left - 1) f given ts ks cs o end pos e
+        named_last q =
             let z = row_empty t (span_entry t c) stop f.target (uses_for f ks) named.rest named.behind (omega arith) in
             let y : row_bytes x f ts named.inner ++ row_bytes x f ts named.rest ≡ row_bytes x f ts named.inner =
             ap (λ (us : Codes). row_bytes x f ts named.inner ++ row_bytes x f ts us) z ∙ rw (row_nil x f ts) (append-nil (row_bytes x f ts named.inner)) in
             record {
               rest = named.inner;
               kinds = named.innerKinds;
-              asks = rw q at inner-asks;
+              asks = rw q at inner_asks;
               same = g.same;
-              goes = λ after d k. goes_on _ _ bytes-name end e w after d (rw y k);
+              goes = λ after d k. goes_on _ _ bytes_name end e w after d (rw y k);
             }
 
         -- Its inner codes were put out.
-        pub inner-turn : {fin : ℕ} → fin ≡ span_entry t c → {after last : List ℕ} {d : ℕ} → RowGives x t input ends state after (c + 2) fin (left - 1) end last e d
+        pub inner_turn : {fin : ℕ} → fin ≡ span_entry t c → {after last : List ℕ} {d : ℕ} → RowGives x t input ends state after (c + 2) fin (left - 1) end last e d
             → Going x t input ends before after fin stop left f given ts ks cs o last pos d
-        unfolding named-asks
-        inner-turn {fin} ef {after} {last} {d} gives =
-            let v = gives f given ts ks _ _ (named-asks ef).2 in
+        unfolding named_asks
+        inner_turn {fin} ef {after} {last} {d} gives =
+            let v = gives f given ts ks _ _ (named_asks ef).2 in
             rw ef record {
               rest = named.rest;
               kinds = named.kinds;
-              asks = onward after (span_entry t c) named.rest named.kinds v.1 named.behind (levels-behind _ named.rest named.is).1;
+              asks = onward after (span_entry t c) named.rest named.kinds v.1 named.behind (levels_behind _ named.rest named.is).1;
               same = same_after g.same v.2;
-              goes = λ far m k. goes_on _ _ bytes-name end e w far m (wrote_then _ (row_bytes x f ts named.rest) end last far e d m v.0 k);
+              goes = λ far m k. goes_on _ _ bytes_name end e w far m (wrote_then _ (row_bytes x f ts named.rest) end last far e d m v.0 k);
             }
 
 -- The end of a production's code that is alone in its row.
@@ -521,15 +521,15 @@ root_span t c stop l r a js w more is =
 module _ (l : Language) (given : Uses) where
   front_all : {ts : Codes} {ks : List ℕ} → TypedAll l given ts ks → front (length ks) ts ≡ ts
   unfolding front
-  front_all typed-nil = refl
-  front_all (typed-cons {a = a} h hs) = ap (cons a) (front_all hs)
+  front_all typed_nil = refl
+  front_all (typed_cons {a = a} h hs) = ap (cons a) (front_all hs)
 
   nth_run : (f : Translation) (j m : ℕ) {ts : Codes} {ks : List ℕ} → TypedAll l given ts ks → j < length ks
       → run_operand (clauses_of f) ts j m ≡ run (clauses_of f) m (nth ts j)
   unfolding nth run
-  nth_run f j m typed-nil h = absurd (omega arith)
-  nth_run f zero m (typed-cons h hs) k = refl
-  nth_run f (suc j) m (typed-cons h hs) k = nth_run f j m hs (omega arith)
+  nth_run f j m typed_nil h = absurd (omega arith)
+  nth_run f zero m (typed_cons h hs) k = refl
+  nth_run f (suc j) m (typed_cons h hs) k = nth_run f j m hs (omega arith)
 
 -- Where argument j of a node starts.
 abbrev pub start_of : Syntax → List ℕ → Codes → ℕ → ℕ
@@ -545,20 +545,20 @@ module _ (x : Syntax) (t input state : List ℕ) (l : Language) (given : Uses) (
       ⊎_elim (λ z. absurd (n (rw e at z))) (λ z. rw e at z) (h.known j (omega arith))
 
   module _ (j : ℕ) (i : j < length ks) where
-    argument-term : Term x input (start_of x state ts j) l given (nth ts j) (get_or ks j 0)
-    argument-term = record {
+    argument_term : Term x input (start_of x state ts j) l given (nth ts j) (get_or ks j 0)
+    argument_term = record {
       typed = nth_kind h.typed j i;
       kind = h.kinds.below j i;
       stands = nth_stands (syntax_of x) h.typed j i input (get_or state 0 0) h.stands;
     }
 
-    argument-place : (j < 8) × (get_or state 9 0 + j < 1024)
-    argument-place = let f = h.few in let q = h.kinds.inside in (omega arith, omega arith)
+    argument_place : (j < 8) × (get_or state 9 0 + j < 1024)
+    argument_place = let f = h.few in let q = h.kinds.inside in (omega arith, omega arith)
 
     -- Where the argument ends is kept.
     end_kept : (e : ℕ) → e ≡ start_of x state ts j + length (bytes_of x (nth ts j)) → Node x t input (set state (j + 1) e) l given ts ks × Same state (set state (j + 1) e)
     end_kept e q =
-        let s = argument-place.0 in
+        let s = argument_place.0 in
         let n : j + 1 ≡ suc j = omega arith in
         let w = front_next (syntax_of x) h.typed j i in
         (node_learnt h j e s (rw n (omega arith)), same_learnt h j e s)
@@ -660,13 +660,13 @@ module _ (t : List ℕ) (f : Translation) (given : Uses) (input : List ℕ) (at 
 
   -- A leaf of a code by its sign.
   module _ (k sign : ℕ) (u : Terms.Code) (inside : at < length input) (is : get_or input at 0 ≡ sign) where
-    sign-is : (n : ℕ) → eqb (get_or input at 0) n ≡ eqb sign n
-    sign-is n = ap (λ (m : ℕ). eqb m n) is
+    sign_is : (n : ℕ) → eqb (get_or input at 0) n ≡ eqb sign n
+    sign_is n = ap (λ (m : ℕ). eqb m n) is
 
-    code-leaf : (sign ≡ 1 → ⊥) → IsLeaf Code f input at u → Tells Code t f given input at u k
+    code_leaf_lem : (sign ≡ 1 → ⊥) → IsLeaf Code f input at u → Tells Code t f given input at u k
     unfolding leaf_at
-    code-leaf n h =
-        let z : eqb (get_or input at 0) 1 ≡ false = sign-is 1 ∙ ne_eqb sign 1 n in
+    code_leaf_lem n h =
+        let z : eqb (get_or input at 0) 1 ≡ false = sign_is 1 ∙ ne_eqb sign 1 n in
         record { inside = inside; leaf = λ q. h; inner = λ q. false_true (sym q ∙ ap not z) }
 
   code_token : (k v : ℕ) → Stands input at (bytes_of Code (token v)) → Tells Code t f given input at (token v) k
@@ -675,7 +675,7 @@ module _ (t : List ℕ) (f : Translation) (given : Uses) (input : List ℕ) (at 
       let a = stands_head input at 2 (v / 256 ∷ v % 256 ∷ []) s in
       let b = stands_head input (at + 1) (v / 256) (v % 256 ∷ []) a.2 in
       let d = stands_head input (at + 2) (v % 256) [] (moved input (v % 256 ∷ []) (omega arith) b.2) in
-      code-leaf k 2 (token v) a.0 a.1 (λ q. omega arith) record {
+      code_leaf_lem k 2 (token v) a.0 a.1 (λ q. omega arith) record {
         long = rw a.1;
         runs = λ j. rw (a.1, b.1, d.1);
         low = λ y. rw a.1 (omega arith);
@@ -686,7 +686,7 @@ module _ (t : List ℕ) (f : Translation) (given : Uses) (input : List ℕ) (at 
   code_plain k i s =
       let a = stands_head input at 3 (i ∷ []) s in
       let b = stands_head input (at + 1) i [] a.2 in
-      code-leaf k 3 (argument i 0) a.0 a.1 (λ q. omega arith) record {
+      code_leaf_lem k 3 (argument i 0) a.0 a.1 (λ q. omega arith) record {
         long = rw a.1;
         runs = λ j. rw (a.1, b.1);
         low = λ y. rw a.1 (omega arith);
@@ -698,7 +698,7 @@ module _ (t : List ℕ) (f : Translation) (given : Uses) (input : List ℕ) (at 
       let a = stands_head input at 4 (i ∷ suc m ∷ []) s in
       let b = stands_head input (at + 1) i (suc m ∷ []) a.2 in
       let d = stands_head input (at + 2) (suc m) [] (moved input (suc m ∷ []) (omega arith) b.2) in
-      code-leaf k 4 (argument i (suc m)) a.0 a.1 (λ q. omega arith) record {
+      code_leaf_lem k 4 (argument i (suc m)) a.0 a.1 (λ q. omega arith) record {
         long = rw a.1;
         runs = λ j. rw (a.1, b.1, d.1);
         low = λ y. rw (a.1, d.1) h;
@@ -706,13 +706,13 @@ module _ (t : List ℕ) (f : Translation) (given : Uses) (input : List ℕ) (at 
 
   tells_by : (x : Syntax) {u : Terms.Code} {k : ℕ} → Given x t f given → Typed f.source given u k → k < 32 → Stands input at (bytes_of x u)
       → Tells x t f given input at u k
-  tells_by Tree g (typed-node {k = k} {p = p} {t = us} {ks = ks} e h) i s = tree_node_lem k p us ks e h i s
-  tells_by Tree g (typed-token {v = v} {k = k} {c = c} e h) i s = tree_token k v c e i s
-  tells_by Tree g (typed-argument {i = a} {j = m} e) i s = no_kind a m (ap (λ (l : Uses). kind_at l a m) (sym (g.plain refl)) ∙ e)
-  tells_by Code g (typed-node {k = k} {p = p} {t = us} {ks = ks} e h) i s = code_node_lem k p us ks e h s
-  tells_by Code g (typed-token {v = v} {k = k} {c = c} e h) i s = code_token k v s
-  tells_by Code g (typed-argument {i = a} {j = zero} {k = k} e) i s = code_plain k a s
-  tells_by Code g (typed-argument {i = a} {j = suc m} {k = k} e) i s = code_numbered k a m (g.uses a (suc m) k e) s
+  tells_by Tree g (typed_node {k = k} {p = p} {t = us} {ks = ks} e h) i s = tree_node_lem k p us ks e h i s
+  tells_by Tree g (typed_token {v = v} {k = k} {c = c} e h) i s = tree_token k v c e i s
+  tells_by Tree g (typed_argument {i = a} {j = m} e) i s = no_kind a m (ap (λ (l : Uses). kind_at l a m) (sym (g.plain refl)) ∙ e)
+  tells_by Code g (typed_node {k = k} {p = p} {t = us} {ks = ks} e h) i s = code_node_lem k p us ks e h s
+  tells_by Code g (typed_token {v = v} {k = k} {c = c} e h) i s = code_token k v s
+  tells_by Code g (typed_argument {i = a} {j = zero} {k = k} e) i s = code_plain k a s
+  tells_by Code g (typed_argument {i = a} {j = suc m} {k = k} e) i s = code_numbered k a m (g.uses a (suc m) k e) s
 
 pub tells : (x : Syntax) (t : List ℕ) (f : Translation) (given : Uses) (input : List ℕ) (at : ℕ) (u : Terms.Code) (k : ℕ) → Given x t f given → Term x input at f.source given u k
     → Tells x t f given input at u k
@@ -822,15 +822,15 @@ module _ {x : Syntax} {t input : List ℕ} {at k number : ℕ} {f : Translation}
           count = rw (new.kinds, back) count;
         }
 
-    pub started-zero : {place c by : ℕ} {before : List ℕ} → place ≡ index_entry t (32 + (k * 256 + name)) → before ≡ replicate 10 0 → by ≡ number → by ≡ 0
+    pub started_zero : {place c by : ℕ} {before : List ℕ} → place ≡ index_entry t (32 + (k * 256 + name)) → before ≡ replicate 10 0 → by ≡ number → by ≡ 0
         → c ≡ clause_entry t (32 + (k * 256 + name)) → Started x t input (set (set before 9 (place + 4)) 0 (at + n + 1)) at (c + 4) number f given u
-    started-zero ep eb e z ec =
+    started_zero ep eb e z ec =
         started ep eb (rw (sym e ∙ z, ec) (a.table.ready.clause k name is_node.kinds a.term.kind small there))
 
-    pub started-other : {place c by : ℕ} {before : List ℕ} → place ≡ index_entry t (32 + (k * 256 + name)) → before ≡ replicate 10 0 → by ≡ number
+    pub started_other : {place c by : ℕ} {before : List ℕ} → place ≡ index_entry t (32 + (k * 256 + name)) → before ≡ replicate 10 0 → by ≡ number
         → ((g : Translation) (ks : List ℕ) → Ready t g → arguments_of g.source k name ≡ some ks → Has g k by
         → Clause t c (clauses_of g k name by)) → Started x t input (set (set before 9 (place + 4)) 0 (at + n + 1)) at c number f given u
-    started-other ep eb e gives = started ep eb (rw (← e) (gives f is_node.kinds a.table.ready there (rw e a.has)))
+    started_other ep eb e gives = started ep eb (rw (← e) (gives f is_node.kinds a.table.ready there (rw e a.has)))
 
 -- run_node: the code of a clause.
 module _ {x : Syntax} {t input ends state : List ℕ} {at k number left c stop : ℕ} {f : Translation} {given : Uses} {u : Terms.Code}
@@ -854,7 +854,7 @@ module _ {x : Syntax} {t input ends state : List ℕ} {at k number left c stop :
       let z = append-nil (write code s.body) in
       let i = s.clause.inside in
       record {
-        typed = typed-cons s.typed typed-nil;
+        typed = typed_cons s.typed typed_nil;
         stands = rw z s.clause.stands;
         spans = (s.clause.spans, tt);
         ends = rw z es;
@@ -900,16 +900,16 @@ module _ {x : Syntax} {t input ends state : List ℕ} {at k number left c stop :
       going_start x t input ends state c stop (left - 15) o pos f given _ _ _ _ (clause_asks 15 (omega arith) (omega arith) (omega arith))
 
   pub root_narrow : {b : ℕ} → b ≡ body_byte t (c + 1) → b < 256
-  root_narrow e = let g = whole_going [] 0 in next-narrow g clause_more e (omega arith) (next-two g clause_more)
+  root_narrow e = let g = whole_going [] 0 in next_narrow g clause_more e (omega arith) (next_two g clause_more)
 
   pub root_room : c + 1 < 4096
-  root_room = next-below (whole_going [] 0) clause_more
+  root_room = next_below (whole_going [] 0) clause_more
 
   pub root_going : {o mid : List ℕ} {pos p name : ℕ} → body_byte t c ≡ 1 → name ≡ body_byte t (c + 1) → Wrote (sign (syntax_of x) 1 ++ name ∷ []) o mid pos p
       → NodeGoing (c + 2) o mid pos p
   root_going {o} {mid} {pos} {p} is en w =
       let g : Going x t input ends state state (c + 2) stop (left - 14 - 1) f given s.operands s.kinds (cons s.body nil) o mid pos p =
-      named-last (whole_going o pos) clause_more is en w
+      named_last (whole_going o pos) clause_more is en w
       (root_span t c stop f.target (uses_for f s.kinds) s.body (s.result ∷ []) clause_row clause_more is) in
       let z : left - 14 - 1 ≡ left - 15 = omega arith in
       rw z at g
@@ -923,25 +923,25 @@ module _ {x : Syntax} {t input ends state : List ℕ} {at k number left c stop :
 
   -- Its codes were put out.
   module _ {to : ℕ} {o mid : List ℕ} {pos p : ℕ} (g : NodeGoing to o mid pos p) {after end : List ℕ} {e : ℕ} (gives : RowGives x t input ends state after to stop (left - 15) mid end p e) where
-    given-codes : Wrote (row_bytes x f s.operands g.rest) mid end p e × Node x t input after f.source given s.operands s.kinds × Same state after
-    given-codes = gives f given _ _ _ _ g.asks
+    given_codes : Wrote (row_bytes x f s.operands g.rest) mid end p e × Node x t input after f.source given s.operands s.kinds × Same state after
+    given_codes = gives f given _ _ _ _ g.asks
 
-    pub node-wrote : Wrote (bytes_of x (run (clauses_of f) number u)) o end pos e
-    node-wrote = rw (← run_is) (g.goes end e given-codes.0)
+    pub node_wrote : Wrote (bytes_of x (run (clauses_of f) number u)) o end pos e
+    node_wrote = rw (← run_is) (g.goes end e given_codes.0)
 
-    pub last-asks : LastAsks x t input ends after f given s.operands s.kinds
-    last-asks =
-        let z = given-codes.2.from in
+    pub last_asks : LastAsks x t input ends after f given s.operands s.kinds
+    last_asks =
+        let z = given_codes.2.from in
         let m = a.most in
         let d = s.deep in
         record {
-          asks = record { table = a.there.table; kept = a.kept; node = given-codes.1; levels = omega arith; number = omega arith };
+          asks = record { table = a.there.table; kept = a.kept; node = given_codes.1; levels = omega arith; number = omega arith };
           from = rw z s.from;
           count = rw z s.count;
         }
 
     pub node_end : {r : ℕ} → r ≡ get_or after 0 0 + length (all_bytes x s.operands) → r ≡ at + length (bytes_of x u)
-    node_end e' = let z = given-codes.2.start in let y = s.ends in omega arith
+    node_end e' = let z = given_codes.2.start in let y = s.ends in omega arith
 
 -- What finding the start of an argument gives.
 abbrev pub FindGives : (x : Syntax) (t input ends before after : List ℕ) (j e : ℕ) → Type 0
@@ -961,18 +961,18 @@ module _ {x : Syntax} {t input ends state : List ℕ} {f : Translation} {given :
     last_number : n - 2 ≡ length ks
     last_number = let c = a.count in omega arith
 
-    pub last-find : FindAsks x t input ends state (n - 2) f given ts ks
-    last-find = rw last_number a.asks
+    pub last_find : FindAsks x t input ends state (n - 2) f given ts ks
+    last_find = rw last_number a.asks
 
-    pub last-known : {e : ℕ} → e ≡ known_start state (n - 2) → (e ≡ 0 → ⊥) → e ≡ get_or state 0 0 + length (all_bytes x ts)
-    last-known ee h =
+    pub last_known : {e : ℕ} → e ≡ known_start state (n - 2) → (e ≡ 0 → ⊥) → e ≡ get_or state 0 0 + length (all_bytes x ts)
+    last_known ee h =
         let c = last_number in
         ee ∙ (known_start_lem x t input state f.source given ts ks a.asks.node (n - 2) (omega arith) (λ z. h (ee ∙ z))
         ∙ (ap (start_of x state ts) last_number ∙ last_end x t input state f.source given ts ks a.asks.node))
 
     pub last_found : {after : List ℕ} {e : ℕ} → FindGives x t input ends state after (n - 2) e → e ≡ get_or state 0 0 + length (all_bytes x ts)
     last_found gives =
-        (gives f given ts ks last-find).0 ∙ (ap (start_of x state ts) last_number ∙ last_end x t input state f.source given ts ks a.asks.node)
+        (gives f given ts ks last_find).0 ∙ (ap (start_of x state ts) last_number ∙ last_end x t input state f.source given ts ks a.asks.node)
 
 -- What the run of a production's term by a number gives.
 abbrev pub NodeGives : (x : Syntax) (t input ends before after : List ℕ) (at k number left j : ℕ) (o end : List ℕ) (pos e : ℕ) → Type 0
@@ -1028,60 +1028,60 @@ module _ {x : Syntax} {t input ends state : List ℕ} {left j at c : ℕ} {f : T
   j_inside = rw a.used a.asks.place
 
   pub found_place : (j < 8) × (get_or state 9 0 + j < 1024)
-  found_place = argument-place x t input state f.source given ts ks a.asks.node j j_inside
+  found_place = argument_place x t input state f.source given ts ks a.asks.node j j_inside
 
   module _ {kind : ℕ} (ek : kind ≡ source_byte t (get_or state 9 0 + j)) where
     kind_is : kind ≡ get_or ks j 0
     kind_is = ek ∙ kind_byte a.asks.node.kinds j j_inside
 
-    found-term : Term x input at f.source given (nth ts j) kind
-    found-term = rw (kind_is, a.start) (argument-term x t input state f.source given ts ks a.asks.node j j_inside)
+    found_term : Term x input at f.source given (nth ts j) kind
+    found_term = rw (kind_is, a.start) (argument_term x t input state f.source given ts ks a.asks.node j j_inside)
 
-    found-tells : Tells x t f given input at (nth ts j) kind
-    found-tells = tells x t f given input at (nth ts j) kind a.asks.table found-term
+    found_tells : Tells x t f given input at (nth ts j) kind
+    found_tells = tells x t f given input at (nth ts j) kind a.asks.table found_term
 
     pub found_below : (kind < 32) × (at < length input)
-    found_below = (found-term.kind, found-tells.inside)
+    found_below = (found_term.kind, found_tells.inside)
 
-    found-has : Has f kind (used_number t c)
-    found-has = rw (kind_is, a.used) a.asks.has
+    found_has : Has f kind (used_number t c)
+    found_has = rw (kind_is, a.used) a.asks.has
 
-    found-levels : levels (nth ts j) ≤ levels_all ts
-    found-levels = nth_levels a.asks.node.typed j j_inside
+    found_levels : levels (nth ts j) ≤ levels_all ts
+    found_levels = nth_levels a.asks.node.typed j j_inside
 
-    found-run : bytes_of x (run_operand (clauses_of f) ts (used_place t c) (used_number t c)) ≡ bytes_of x (run (clauses_of f) (used_number t c) (nth ts j))
-    found-run = rw (← a.used) (ap (bytes_of x) (nth_run f.source given f j (used_number t c) a.asks.node.typed j_inside))
+    found_run : bytes_of x (run_operand (clauses_of f) ts (used_place t c) (used_number t c)) ≡ bytes_of x (run (clauses_of f) (used_number t c) (nth ts j))
+    found_run = rw (← a.used) (ap (bytes_of x) (nth_run f.source given f j (used_number t c) a.asks.node.typed j_inside))
 
-    found-kept : (e : ℕ) → e ≡ at + length (bytes_of x (nth ts j)) → Node x t input (set state (j + 1) e) f.source given ts ks × Same state (set state (j + 1) e)
-    found-kept e q =
+    found_kept : (e : ℕ) → e ≡ at + length (bytes_of x (nth ts j)) → Node x t input (set state (j + 1) e) f.source given ts ks × Same state (set state (j + 1) e)
+    found_kept e q =
         end_kept x t input state f.source given ts ks a.asks.node j j_inside e (q ∙ ap (λ (n : ℕ). n + length (bytes_of x (nth ts j))) a.start)
 
     -- A leaf.
     module _ (is : leaf_at x t kind input at ≡ true) where
       leaf : IsLeaf x f input at (nth ts j)
-      leaf = found-tells.leaf is
+      leaf = found_tells.leaf is
 
       pub leaf_room : at + leaf_length x input at ≤ length input
-      leaf_room = let i = found-term.stands.inside in let l = leaf.long in omega arith
+      leaf_room = let i = found_term.stands.inside in let l = leaf.long in omega arith
 
       pub leaf_low : x ≡ Code → LeafLow input at (used_number t c)
-      leaf_low e = record { number = a.asks.table.numbers e kind (used_number t c) found-has; used = leaf.low e }
+      leaf_low e = record { number = a.asks.table.numbers e kind (used_number t c) found_has; used = leaf.low e }
 
-      pub leaf-gives : {after o end : List ℕ} {pos e : ℕ} → Wrote (leaf_run x input at (used_number t c)) o end pos e → after ≡ set state (j + 1) (at + leaf_length x input at)
+      pub leaf_gives : {after o end : List ℕ} {pos e : ℕ} → Wrote (leaf_run x input at (used_number t c)) o end pos e → after ≡ set state (j + 1) (at + leaf_length x input at)
           → Wrote (bytes_of x (run_operand (clauses_of f) ts (used_place t c) (used_number t c))) o end pos e × Node x t input after f.source given ts ks × Same state after
-      leaf-gives w ea =
-          let l = found-kept (at + leaf_length x input at) (ap (λ (m : ℕ). at + m) leaf.long) in
-          (rw (found-run ∙ sym (leaf.runs (used_number t c))) w, rw ea l.0, rw ea l.1)
+      leaf_gives w ea =
+          let l = found_kept (at + leaf_length x input at) (ap (λ (m : ℕ). at + m) leaf.long) in
+          (rw (found_run ∙ sym (leaf.runs (used_number t c))) w, rw ea l.0, rw ea l.1)
 
     -- A production.
     module _ (is : leaf_at x t kind input at ≡ false) where
-      pub found-asks : NodeAsks x t input ends at kind (used_number t c) (left - left % tree_level) f given (nth ts j)
-      found-asks =
+      pub found_asks : NodeAsks x t input ends at kind (used_number t c) (left - left % tree_level) f given (nth ts j)
+      found_asks =
           let l = a.asks.nodes in
-          let m = found-levels in
+          let m = found_levels in
           let h = a.asks.most in
           record {
-            there = record { table = a.asks.table; term = found-term; inner = is; has = found-has };
+            there = record { table = a.asks.table; term = found_term; inner = is; has = found_has };
             kept = a.asks.kept;
             most = omega arith;
             nodes = omega arith;
@@ -1091,9 +1091,9 @@ module _ {x : Syntax} {t input ends state : List ℕ} {left j at c : ℕ} {f : T
       pub found_gives : {after o end : List ℕ} {pos e : ℕ} → NodeGives x t input ends state after at kind (used_number t c) (left - left % tree_level) j o end pos e
           → Wrote (bytes_of x (run_operand (clauses_of f) ts (used_place t c) (used_number t c))) o end pos e × Node x t input after f.source given ts ks × Same state after
       found_gives gives =
-          let w = gives f given (nth ts j) found-asks in
-          let l = found-kept (at + length (bytes_of x (nth ts j))) refl in
-          (rw found-run w.0, rw w.1 l.0, rw w.1 l.1)
+          let w = gives f given (nth ts j) found_asks in
+          let l = found_kept (at + length (bytes_of x (nth ts j))) refl in
+          (rw found_run w.0, rw w.1 l.0, rw w.1 l.1)
 
 -- put_argument: a leaf of a tree and of a code.
 module _ {x : Syntax} (input : List ℕ) (at : ℕ) where
@@ -1132,14 +1132,14 @@ module _ {x : Syntax} {t input ends : List ℕ} {deep k number : ℕ} {f : Trans
   transform_run = refl
 
   module _ (is : leaf_at x t k input 0 ≡ true) where
-    pub term-room : 0 + leaf_length x input 0 ≤ length input
-    term-room = let i = a.term.stands.inside in let l = (term_tells.leaf is).long in omega arith
+    pub term_room : 0 + leaf_length x input 0 ≤ length input
+    term_room = let i = a.term.stands.inside in let l = (term_tells.leaf is).long in omega arith
 
-    pub term-low : x ≡ Code → LeafLow input 0 (used_number t (4096 + number))
-    term-low e = rw (root_number t number) record { number = a.table.numbers e k number a.has; used = (term_tells.leaf is).low e }
+    pub term_low : x ≡ Code → LeafLow input 0 (used_number t (4096 + number))
+    term_low e = rw (root_number t number) record { number = a.table.numbers e k number a.has; used = (term_tells.leaf is).low e }
 
-    pub term-leaf : {o end : List ℕ} {pos e : ℕ} → Wrote (leaf_run x input 0 (used_number t (4096 + number))) o end pos e → Wrote (bytes_of x (transform f number u)) o end pos e
-    term-leaf w = rw (transform_run ∙ sym ((term_tells.leaf is).runs number)) (rw (root_number t number) at w)
+    pub term_leaf : {o end : List ℕ} {pos e : ℕ} → Wrote (leaf_run x input 0 (used_number t (4096 + number))) o end pos e → Wrote (bytes_of x (transform f number u)) o end pos e
+    term_leaf w = rw (transform_run ∙ sym ((term_tells.leaf is).runs number)) (rw (root_number t number) at w)
 
   module _ (is : leaf_at x t k input 0 ≡ false) where
     pub term_asks : NodeAsks x t input ends 0 k (used_number t (4096 + number)) (tree_level * deep) f given u

@@ -15,7 +15,7 @@ use Rattle.format_fields.proofs.Split.{front}
 use Rattle.format_language.specs.Language.{Language, production_key}
 use Rattle.tree_reader.specs.Code as Terms
 use Rattle.tree_reader.specs.Code.{node, token, argument, Codes, nil, cons, levels, levels_all}
-use Rattle.tree_reader.specs.Typing.{Uses, kind_at, Typed, TypedAll, typed-node, typed-token, typed-argument, typed-nil, typed-cons}
+use Rattle.tree_reader.specs.Typing.{Uses, kind_at, Typed, TypedAll, typed_node, typed_token, typed_argument, typed_nil, typed_cons}
 use Rattle.tree_reader.specs.Syntax.{write, write_all}
 use Rattle.tree_reader.specs.declared.node.Syntax.{Syntax}
 use Rattle.tree_reader.specs.declared.node.Syntax.TheVariants.{Tree, Code}
@@ -83,8 +83,8 @@ set_long l i a e = length-set l i a ∙ e
 -- Terms of no kinds have no bytes.
 all_none : (x : Syntax) {l : Language} {given : Uses} (ts : Codes) (ks : List ℕ) → TypedAll l given ts ks → length ks ≡ 0 → length (all_bytes x ts) ≡ 0
 unfolding write_all
-all_none x nil [] typed-nil z = refl
-all_none x (cons a ts) (k ∷ ks) (typed-cons p ps) z = absurd (omega arith)
+all_none x nil [] typed_nil z = refl
+all_none x (cons a ts) (k ∷ ks) (typed_cons p ps) z = absurd (omega arith)
 
 -- A row of terms that is still to be read: its kinds stand in the source from q up to e, its terms in the input from `to`
 -- on. It has d rows behind it.
@@ -192,8 +192,8 @@ module _ (x : Syntax) (t b : List ℕ) (l : Language) (given : Uses) where
         → Stands b to (all_bytes x ts) → levels_all ts + d ≤ 64 → Rests d (to + length (all_bytes x ts)) → (q ≡ e → ⊥)
         → First x t b l given firsts lasts end d q e to
     unfolding write_all levels_all
-    first_of nil [] typed-nil n g s m r h = absurd (h (omega arith))
-    first_of {d} {q} {e} {to} (cons a ts) (k ∷ ks) (typed-cons p ps) n g s m r h =
+    first_of nil [] typed_nil n g s m r h = absurd (h (omega arith))
+    first_of {d} {q} {e} {to} (cons a ts) (k ∷ ks) (typed_cons p ps) n g s m r h =
         let c = stands_head t (16448 + q) k ks n.stands in
         let v = stands_both b to (bytes_of x a) (all_bytes x ts) s in
         let i = n.inside in
@@ -244,13 +244,13 @@ module _ (t b : List ℕ) (f : Translation) (given : Uses) (at : ℕ) where
   pub leaf_bytes : (x : Syntax) → Given x t f given → {u : Terms.Code} {k : ℕ} → Typed f.source given u k → k < 32 → Stands b at (bytes_of x u)
       → true ≡ leaf_at x t k b at → leaf_length x b at ≡ length (bytes_of x u)
   unfolding write leaf_at leaf_length
-  leaf_bytes Tree g (typed-node {k = k} {p = p} {ks = ks} m h) i s e = is_not (index_entry t k) 0 e (g.ready.name k p ks i m)
-  leaf_bytes Tree g (typed-token m h) i s e = refl
-  leaf_bytes Tree g (typed-argument {i = n} {j = j} m) i s e = no_kind n j (ap (λ (l : Uses). kind_at l n j) (sym (g.plain refl)) ∙ m)
-  leaf_bytes Code g (typed-node m h) i s e = is_not (get_or b at 0) 1 e (stands_head b at _ _ s).1
-  leaf_bytes Code g (typed-token m h) i s e = let z = (stands_head b at _ _ s).1 in rw (ne_eqb (get_or b at 0) 3 (λ y. omega (arith, z)))
-  leaf_bytes Code g (typed-argument {j = zero} m) i s e = rw (eq-eqb (get_or b at 0) 3 (stands_head b at _ _ s).1)
-  leaf_bytes Code g (typed-argument {j = suc j} m) i s e = let z = (stands_head b at _ _ s).1 in rw (ne_eqb (get_or b at 0) 3 (λ y. omega (arith, z)))
+  leaf_bytes Tree g (typed_node {k = k} {p = p} {ks = ks} m h) i s e = is_not (index_entry t k) 0 e (g.ready.name k p ks i m)
+  leaf_bytes Tree g (typed_token m h) i s e = refl
+  leaf_bytes Tree g (typed_argument {i = n} {j = j} m) i s e = no_kind n j (ap (λ (l : Uses). kind_at l n j) (sym (g.plain refl)) ∙ m)
+  leaf_bytes Code g (typed_node m h) i s e = is_not (get_or b at 0) 1 e (stands_head b at _ _ s).1
+  leaf_bytes Code g (typed_token m h) i s e = let z = (stands_head b at _ _ s).1 in rw (ne_eqb (get_or b at 0) 3 (λ y. omega (arith, z)))
+  leaf_bytes Code g (typed_argument {j = zero} m) i s e = rw (eq-eqb (get_or b at 0) 3 (stands_head b at _ _ s).1)
+  leaf_bytes Code g (typed_argument {j = suc j} m) i s e = let z = (stands_head b at _ _ s).1 in rw (ne_eqb (get_or b at 0) 3 (λ y. omega (arith, z)))
 
 -- What stands at `to` where there is no leaf: a production's name.
 module _ (t b : List ℕ) (f : Translation) (given : Uses) (firsts lasts : List ℕ) (end d q e to : ℕ) (inside : q < e) (most : e ≤ 1024) where
@@ -259,12 +259,12 @@ module _ (t b : List ℕ) (f : Translation) (given : Uses) (firsts lasts : List 
       → Going x t b f.source given firsts lasts end d (q + 1) e (to + length (bytes_of x u))
       → Named x t b f.source given firsts lasts end d q e to k
   unfolding write levels leaf_at
-  name_of Tree g (typed-token {k = k} {c = c} m h) i s j n o = let z = g.ready.class k c i m in not_is (index_entry t k) 0 n (λ y. omega (arith, z))
-  name_of Tree g (typed-argument {i = a} {j = y} m) i s j n o = no_kind a y (ap (λ (l : Uses). kind_at l a y) (sym (g.plain refl)) ∙ m)
-  name_of Code g (typed-token m h) i s j n o = let z = (stands_head b to _ _ s).1 in not_is (get_or b to 0) 1 n (λ y. omega (arith, z))
-  name_of Code g (typed-argument {j = zero} m) i s j n o = let z = (stands_head b to _ _ s).1 in not_is (get_or b to 0) 1 n (λ y. omega (arith, z))
-  name_of Code g (typed-argument {j = suc a} m) i s j n o = let z = (stands_head b to _ _ s).1 in not_is (get_or b to 0) 1 n (λ y. omega (arith, z))
-  name_of Tree g (typed-node {k = k} {p = p} {t = ts} {ks = ks} m h) i s j n o =
+  name_of Tree g (typed_token {k = k} {c = c} m h) i s j n o = let z = g.ready.class k c i m in not_is (index_entry t k) 0 n (λ y. omega (arith, z))
+  name_of Tree g (typed_argument {i = a} {j = y} m) i s j n o = no_kind a y (ap (λ (l : Uses). kind_at l a y) (sym (g.plain refl)) ∙ m)
+  name_of Code g (typed_token m h) i s j n o = let z = (stands_head b to _ _ s).1 in not_is (get_or b to 0) 1 n (λ y. omega (arith, z))
+  name_of Code g (typed_argument {j = zero} m) i s j n o = let z = (stands_head b to _ _ s).1 in not_is (get_or b to 0) 1 n (λ y. omega (arith, z))
+  name_of Code g (typed_argument {j = suc a} m) i s j n o = let z = (stands_head b to _ _ s).1 in not_is (get_or b to 0) 1 n (λ y. omega (arith, z))
+  name_of Tree g (typed_node {k = k} {p = p} {t = ts} {ks = ks} m h) i s j n o =
       let c = stands_head b to p (all_bytes Tree ts) s in
       let y : get_or b (to + 0) 0 ≡ p = ap (λ (a : ℕ). get_or b a 0) (add-zero to) ∙ c.1 in
       let l : to + length (p ∷ all_bytes Tree ts) ≡ to + 1 + length (all_bytes Tree ts) = omega arith in
@@ -281,7 +281,7 @@ module _ (t b : List ℕ) (f : Translation) (given : Uses) (firsts lasts : List 
         most = most;
         next = subst (λ (r : ℕ). Going Tree t b f.source given firsts lasts end d (q + 1) e r) l o;
       }
-  name_of Code g (typed-node {k = k} {p = p} {t = ts} {ks = ks} m h) i s j n o =
+  name_of Code g (typed_node {k = k} {p = p} {t = ts} {ks = ks} m h) i s j n o =
       let v = stands_head b to 1 (p ∷ all_bytes Code ts) s in
       let c = stands_head b (to + 1) p (all_bytes Code ts) v.2 in
       let y : get_or b (to + 1) 0 ≡ p = c.1 in
@@ -341,8 +341,8 @@ module _ (x : Syntax) (t b : List ℕ) (l : Language) (given : Uses) (firsts las
     none h = all_none x m.codes m.kinds m.typed (omega (arith, counted))
 
     -- It has no arguments.
-    pub name-next : {c : ℕ} → n ≡ 2 → c ≡ name_length x → Going x t b l given firsts lasts end d (q + 1) e (to + c)
-    name-next {c} h ec =
+    pub name_next : {c : ℕ} → n ≡ 2 → c ≡ name_length x → Going x t b l given firsts lasts end d (q + 1) e (to + c)
+    name_next {c} h ec =
         let z : to + name_length x + length (all_bytes x m.codes) ≡ to + c = omega (arith, none h, ec) in
         subst (λ (a : ℕ). Going x t b l given firsts lasts end d (q + 1) e a) z m.next
 
@@ -427,7 +427,7 @@ module _ (x : Syntax) (t b : List ℕ) (from at : ℕ) where
           kinds = k ∷ [];
           known = one_kind (f, given, u, k, h) k h.term.kind h.kind;
           ends = refl;
-          typed = typed-cons h.term.typed typed-nil;
+          typed = typed_cons h.term.typed typed_nil;
           stands = subst (λ (v : List ℕ). Stands b at v) (sym (append-nil (bytes_of x u))) h.term.stands;
           deep = omega (arith, h.levels);
         };
@@ -462,75 +462,75 @@ module _ {x : Syntax} {t b : List ℕ} {from at : ℕ} {firsts lasts : List ℕ}
 
   -- The row is not at its end.
   module _ (more : q ≡ e → ⊥) where
-    now-first : First x t b p.0.source p.1 firsts lasts (at + length (bytes_of x p.2)) d q e to
-    now-first = first x t b p.0.source p.1 firsts lasts (at + length (bytes_of x p.2)) more now_going
+    now_first : First x t b p.0.source p.1 firsts lasts (at + length (bytes_of x p.2)) d q e to
+    now_first = first x t b p.0.source p.1 firsts lasts (at + length (bytes_of x p.2)) more now_going
 
-    pub turn-row : (q < e) × (e ≤ 1024)
-    turn-row = (now-first.inside, now-first.most)
+    pub turn_row : (q < e) × (e ≤ 1024)
+    turn_row = (now_first.inside, now_first.most)
 
-    pub turn-to : to < length b
-    turn-to = omega (arith, now-first.stands.inside, some_bytes x now-first.code)
+    pub turn_to : to < length b
+    turn_to = omega (arith, now_first.stands.inside, some_bytes x now_first.code)
 
     module _ {kind : ℕ} (ek : kind ≡ source_byte t q) where
-      pub turn-kind : kind < 32
-      turn-kind = omega (arith, ek, now-first.source, now-first.small)
+      pub turn_kind : kind < 32
+      turn_kind = omega (arith, ek, now_first.source, now_first.small)
 
       -- A leaf.
       module _ {r : Bool} (er : r ≡ leaf_at x t kind b to) (leaf : r ≡ true) {n : ℕ} (en : n ≡ leaf_length x b to) where
-        pub turn-leaf-in : to + n ≤ length b
-        turn-leaf-in =
+        pub turn_leaf_in : to + n ≤ length b
+        turn_leaf_in =
             leaf_in x t b p.0 p.1 firsts lasts (at + length (bytes_of x p.2)) d q e to p.4.table more now_going ek (sym leaf ∙ er) en
 
-        pub turn-leaf : Holds x t b from at firsts lasts d (q + 1) e (to + n)
-        turn-leaf f given u k a =
+        pub turn_leaf : Holds x t b from at firsts lasts d (q + 1) e (to + n)
+        turn_leaf f given u k a =
             leaf_next x t b f given firsts lasts (at + length (bytes_of x u)) d q e to a.table more (g f given u k a) ek (sym leaf ∙ er) en
 
       -- A name.
       module _ {r : Bool} (er : r ≡ leaf_at x t kind b to) (name : r ≡ false) where
-        named-for : (f : Translation) (given : Uses) (u : Terms.Code) (k : ℕ) → SkipAsks x t b from at f given u k
+        named_for : (f : Translation) (given : Uses) (u : Terms.Code) (k : ℕ) → SkipAsks x t b from at f given u k
             → Named x t b f.source given firsts lasts (at + length (bytes_of x u)) d q e to kind
-        named-for f given u k a =
+        named_for f given u k a =
             named x t b f given firsts lasts (at + length (bytes_of x u)) d q e to a.table more (g f given u k a) ek (sym name ∙ er)
 
-        now-named : Named x t b p.0.source p.1 firsts lasts (at + length (bytes_of x p.2)) d q e to kind
-        now-named = named-for p.0 p.1 p.2 p.3 p.4
+        now_named : Named x t b p.0.source p.1 firsts lasts (at + length (bytes_of x p.2)) d q e to kind
+        now_named = named_for p.0 p.1 p.2 p.3 p.4
 
-        pub turn-name-in : {c : ℕ} → c ≡ name_length x → to + c ≤ length b
-        turn-name-in ec = omega (arith, ec, now-named.there)
+        pub turn_name_in : {c : ℕ} → c ≡ name_length x → to + c ≤ length b
+        turn_name_in ec = omega (arith, ec, now_named.there)
 
-        pub turn-sign-in : {s : ℕ} → s ≡ sign_length x → to + s < length b
-        turn-sign-in es = omega (arith, es, now-named.there, sign-less x)
+        pub turn_sign_in : {s : ℕ} → s ≡ sign_length x → to + s < length b
+        turn_sign_in es = omega (arith, es, now_named.there, sign_less x)
           where
-            sign-less : (y : Syntax) → sign_length y < name_length y
-            sign-less Tree = omega arith
-            sign-less Code = omega arith
+            sign_less : (y : Syntax) → sign_length y < name_length y
+            sign_less Tree = omega arith
+            sign_less Code = omega arith
 
         -- Its production is found.
         module _ {s place : ℕ} (es : s ≡ sign_length x) (byte : get_or b (to + s) 0 < 256)
             (ep : place ≡ index_entry t (production_key kind (get_or b (to + s) 0))) where
-          now-placed : Production t place now-named.kinds
-          now-placed = placed x t b p.0.source p.1 firsts lasts (at + length (bytes_of x p.2)) d q e to kind now-named es byte ep
+          now_placed : Production t place now_named.kinds
+          now_placed = placed x t b p.0.source p.1 firsts lasts (at + length (bytes_of x p.2)) d q e to kind now_named es byte ep
 
-          pub turn-place : place + 4 ≤ 1024
-          turn-place = omega (arith, now-placed.kinds.inside)
+          pub turn_place : place + 4 ≤ 1024
+          turn_place = omega (arith, now_placed.kinds.inside)
 
           module _ {n : ℕ} (en : n ≡ source_byte t (place + 1)) where
             pub turn_end : place + 2 + n ≤ 1024
-            turn_end = omega (arith, now-placed.kinds.inside, en, now-placed.count)
+            turn_end = omega (arith, now_placed.kinds.inside, en, now_placed.count)
 
-            pub turn-none : {c : ℕ} → n ≡ 2 → c ≡ name_length x → Holds x t b from at firsts lasts d (q + 1) e (to + c)
-            turn-none h ec f given u k a =
-                name-next x t b f.source given firsts lasts (at + length (bytes_of x u)) d q e to kind (named-for f given u k a) es byte ep en h ec
+            pub turn_none : {c : ℕ} → n ≡ 2 → c ≡ name_length x → Holds x t b from at firsts lasts d (q + 1) e (to + c)
+            turn_none h ec f given u k a =
+                name_next x t b f.source given firsts lasts (at + length (bytes_of x u)) d q e to kind (named_for f given u k a) es byte ep en h ec
 
-            pub turn-replaced : {c : ℕ} → q + 1 ≡ e → c ≡ name_length x → Holds x t b from at firsts lasts d (place + 4) (place + 2 + n) (to + c)
-            turn-replaced h ec f given u k a =
-                replaced x t b f.source given firsts lasts (at + length (bytes_of x u)) d q e to kind (named-for f given u k a) es byte ep en h ec
+            pub turn_replaced : {c : ℕ} → q + 1 ≡ e → c ≡ name_length x → Holds x t b from at firsts lasts d (place + 4) (place + 2 + n) (to + c)
+            turn_replaced h ec f given u k a =
+                replaced x t b f.source given firsts lasts (at + length (bytes_of x u)) d q e to kind (named_for f given u k a) es byte ep en h ec
 
-            pub turn-room : (n ≡ 2 → ⊥) → d < 64
-            turn-room h =
-                room x t b p.0.source p.1 firsts lasts (at + length (bytes_of x p.2)) d q e to kind now-named es byte ep en h
+            pub turn_room : (n ≡ 2 → ⊥) → d < 64
+            turn_room h =
+                room x t b p.0.source p.1 firsts lasts (at + length (bytes_of x p.2)) d q e to kind now_named es byte ep en h
 
-            pub turn-pushed : {c : ℕ} → (n ≡ 2 → ⊥) → c ≡ name_length x → length firsts ≡ 64 → length lasts ≡ 64
+            pub turn_pushed : {c : ℕ} → (n ≡ 2 → ⊥) → c ≡ name_length x → length firsts ≡ 64 → length lasts ≡ 64
                 → Holds x t b from at (set firsts d (q + 1)) (set lasts d e) (d + 1) (place + 4) (place + 2 + n) (to + c)
-            turn-pushed h ec ef el f given u k a =
-                pushed x t b f.source given firsts lasts (at + length (bytes_of x u)) d q e to kind (named-for f given u k a) es byte ep en h ec ef el
+            turn_pushed h ec ef el f given u k a =
+                pushed x t b f.source given firsts lasts (at + length (bytes_of x u)) d q e to kind (named_for f given u k a) es byte ep en h ec ef el

@@ -15,26 +15,26 @@ module _ (h g : ℕ → ℕ → ℕ) where
   mutual
     unfolding over_uses
 
-    uses-more : ((i j : ℕ) → h i j ≤ g i j) → (c : Code) → over_uses h c ≤ over_uses g c
-    uses-more l (node k p t) = uses-moreAll l t
-    uses-more l (token v) = omega arith
-    uses-more l (argument i j) = l i j
+    uses_more : ((i j : ℕ) → h i j ≤ g i j) → (c : Code) → over_uses h c ≤ over_uses g c
+    uses_more l (node k p t) = uses_more_all l t
+    uses_more l (token v) = omega arith
+    uses_more l (argument i j) = l i j
 
-    uses-moreAll : ((i j : ℕ) → h i j ≤ g i j) → (t : Codes) → over_all_uses h t ≤ over_all_uses g t
-    uses-moreAll l nil = omega arith
-    uses-moreAll l (cons a t) = let x = uses-more l a in let y = uses-moreAll l t in omega arith
+    uses_more_all : ((i j : ℕ) → h i j ≤ g i j) → (t : Codes) → over_all_uses h t ≤ over_all_uses g t
+    uses_more_all l nil = omega arith
+    uses_more_all l (cons a t) = let x = uses_more l a in let y = uses_more_all l t in omega arith
 
   mutual
     unfolding over_uses
 
-    uses-add : (c : Code) → over_uses (λ i j. h i j + g i j) c ≡ over_uses h c + over_uses g c
-    uses-add (node k p t) = uses-addAll t
-    uses-add (token v) = omega arith
-    uses-add (argument i j) = refl
+    uses_add : (c : Code) → over_uses (λ i j. h i j + g i j) c ≡ over_uses h c + over_uses g c
+    uses_add (node k p t) = uses_add_all t
+    uses_add (token v) = omega arith
+    uses_add (argument i j) = refl
 
-    uses-addAll : (t : Codes) → over_all_uses (λ i j. h i j + g i j) t ≡ over_all_uses h t + over_all_uses g t
-    uses-addAll nil = omega arith
-    uses-addAll (cons a t) = let x = uses-add a in let y = uses-addAll t in omega arith
+    uses_add_all : (t : Codes) → over_all_uses (λ i j. h i j + g i j) t ≡ over_all_uses h t + over_all_uses g t
+    uses_add_all nil = omega arith
+    uses_add_all (cons a t) = let x = uses_add a in let y = uses_add_all t in omega arith
 
 mutual
   unfolding over_uses
@@ -67,7 +67,7 @@ placed_most : (c : Code) → ((i : ℕ) → times_used i c ≤ 1) → (t : Codes
 unfolding placed productions_all times_used
 placed_most c once nil n = let z = uses_none c in omega arith
 placed_most c once (cons a t) n =
-    let x = uses-add (λ i j. productions a * one n i j) (placed t (suc n)) c in
+    let x = uses_add (λ i j. productions a * one n i j) (placed t (suc n)) c in
     let y = uses_times (productions a) (one n) c in
     let m : productions a * over_uses (one n) c ≤ productions a * 1 = mul-le-mul (let z : productions a ≤ productions a = omega arith in z) (once n) in
     let r = placed_most c once t (suc n) in
@@ -84,26 +84,26 @@ module _ (f : Clauses) (once : UsesOnce f) where
   mutual
     unfolding cost productions count_from_one placed
 
-    cost-most : (j : ℕ) (t : Code) → cost f j t ≤ productions t
-    cost-most j (node k p t) =
-        let x = uses-more (count_from_one (λ i by. cost_operand f t i by)) (placed t 1) (λ i by. operand_first t (λ i by. operand-most t 1 i by) i by) (f k p j) in
+    cost_most : (j : ℕ) (t : Code) → cost f j t ≤ productions t
+    cost_most j (node k p t) =
+        let x = uses_more (count_from_one (λ i by. cost_operand f t i by)) (placed t 1) (λ i by. operand_first t (λ i by. operand_most t 1 i by) i by) (f k p j) in
         let y = placed_most (f k p j) (once k p j) t 1 in
         omega arith
-    cost-most j (token v) = omega arith
-    cost-most j (argument i by) = omega arith
+    cost_most j (token v) = omega arith
+    cost_most j (argument i by) = omega arith
 
-    operand-most : (t : Codes) (n i by : ℕ) → cost_operand f t i by ≤ placed t n (n + i) by
-    operand-most nil n i by = omega arith
-    operand-most (cons a t) n zero by =
-        let x = cost-most by a in
+    operand_most : (t : Codes) (n i by : ℕ) → cost_operand f t i by ≤ placed t n (n + i) by
+    operand_most nil n i by = omega arith
+    operand_most (cons a t) n zero by =
+        let x = cost_most by a in
         let z : n + 0 ≡ n = omega arith in
         let y : one n (n + 0) by ≡ 1 = rw (eq-eqb (n + 0) n z) in
         rw y (omega arith)
-    operand-most (cons a t) n (suc i) by =
-        let x = operand-most t (suc n) i by in
+    operand_most (cons a t) n (suc i) by =
+        let x = operand_most t (suc n) i by in
         let z : n + suc i ≡ suc n + i = omega arith in
         rw z (omega arith)
 
 -- A run costs at most as much as its tree has productions.
 pub cost_bound : CostBound
-cost_bound f once j t = cost-most f once j t
+cost_bound f once j t = cost_most f once j t

@@ -28,7 +28,7 @@ use Rattle.format_translation.proofs.Fitting.{uses_are}
 use Rattle.format_translation.proofs.Preserved.{use_kind}
 use Rattle.run_measure.specs.Inner.Counting.{Tables, times_at, count_code, count_clause, count_all}
 use Rattle.run_measure.proofs.Counts.{code_done}
-use Rattle.run_measure.proofs.Codes.{added, code-counted, gain, Sound, sound_on, Able, added-sound, added-times, counted, gain-counted, gain-none}
+use Rattle.run_measure.proofs.Codes.{added, code_counted, gain, Sound, sound_on, Able, added_sound, added_times, counted, gain_counted, gain_none}
 
 -- The number of the clause at p, and where its code starts.
 abbrev pub number_at : List ℕ → ℕ → ℕ
@@ -202,8 +202,8 @@ module _ (source index s : List ℕ) (f : Translation) (z : Indexed index source
         let r = read_done code f.target (uses_of f k n) code_levels (mapped f.body k (number_at s p)) (slice start (field_end s p) s) (code_of p) [] at_p.code in
         (r.0, (r.2 (part_bytes s start (field_end s p) at_p.ends bytes)).0 ∙ append-nil (write code (code_of p)))
 
-    is-long : start + length (write code (code_of p)) ≡ field_end s p
-    is-long =
+    is_long : start + length (write code (code_of p)) ≡ field_end s p
+    is_long =
         let past = at_p.past in
         let d : length (write code (code_of p)) ≡ field_end s p - start = ap length (sym is_right.1) ∙ length-slice start (field_end s p) s at_p.ends in
         omega arith
@@ -211,42 +211,42 @@ module _ (source index s : List ℕ) (f : Translation) (z : Indexed index source
     step : (t : Tables) → count_clause s index p t ≡ added to first start (code_of p) t
     step t =
         let e : ℕ = field_end s p in
-        let d = is-long in
+        let d = is_long in
         let front : drop start s ≡ write code (code_of p) ++ drop (e - start) (drop start s) =
         part_front s start e at_p.past at_p.ends ∙ ap (λ (l : List ℕ). l ++ drop (e - start) (drop start s)) is_right.1 in
         at_p.counts index t found
-        ∙ (code-counted s e to first (code_of p) start (drop (e - start) (drop start s)) t front (omega arith)
+        ∙ (code_counted s e to first (code_of p) start (drop (e - start) (drop start s)) t front (omega arith)
         ∙ code_done s (start + length (write code (code_of p))) e to first (added to first start (code_of p) t) (omega arith))
 
-    step-sound : (t : Tables) → Sound m t p → Sound m (count_clause s index p t) (field_end s p)
-    step-sound t h =
+    step_sound : (t : Tables) → Sound m t p → Sound m (count_clause s index p t) (field_end s p)
+    step_sound t h =
         let ends = at_p.ends in
-        let d = is-long in
+        let d = is_long in
         rw (step t, ← d)
-        (added-sound f.target (uses_of f k n) m to first able inside base is_right.0 start t (omega arith) (sound_on h start at_p.from))
+        (added_sound f.target (uses_of f k n) m to first able inside base is_right.0 start t (omega arith) (sound_on h start at_p.from))
 
-    step-times : (t : Tables) → Sound m t p → (q y : ℕ) → q < 1024 → times_at (count_clause s index p t) q y ≡ gain to first q y (code_of p) + times_at t q y
-    step-times t h q y l =
+    step_times : (t : Tables) → Sound m t p → (q y : ℕ) → q < 1024 → times_at (count_clause s index p t) q y ≡ gain to first q y (code_of p) + times_at t q y
+    step_times t h q y l =
         let ends = at_p.ends in
-        let d = is-long in
+        let d = is_long in
         rw (step t)
-        (added-times f.target (uses_of f k n) m to first able inside base is_right.0 start t (omega arith) (sound_on h start at_p.from) q y l)
+        (added_times f.target (uses_of f k n) m to first able inside base is_right.0 start t (omega arith) (sound_on h start at_p.from) q y l)
 
     -- Where its own counts are.
-    step-here : (t : Tables) → Sound m t p → (i j : ℕ) → i ≤ length arguments.0
+    step_here : (t : Tables) → Sound m t p → (i j : ℕ) → i ≤ length arguments.0
         → times_at (count_clause s index p t) (to + i) (first + j) ≡ counted i j (code_of p) + times_at t (to + i) (first + j)
-    step-here t h i j l =
-        step-times t h (to + i) (first + j) (rooms.2 i l)
-        ∙ ap (λ (a : ℕ). a + times_at t (to + i) (first + j)) (gain-counted f.target (uses_of f k n) to first is_right.0 i j)
+    step_here t h i j l =
+        step_times t h (to + i) (first + j) (rooms.2 i l)
+        ∙ ap (λ (a : ℕ). a + times_at t (to + i) (first + j)) (gain_counted f.target (uses_of f k n) to first is_right.0 i j)
 
     -- Elsewhere, and for other numbers, they stay.
-    step-off : (t : Tables) → Sound m t p → (o i v b : ℕ) → b < 256 → (order_at 0x22 s p ≡ o * 256 + v → ⊥) → 0 < place o → i ≤ pair_at source (place o) - 2
+    step_off : (t : Tables) → Sound m t p → (o i v b : ℕ) → b < 256 → (order_at 0x22 s p ≡ o * 256 + v → ⊥) → 0 < place o → i ≤ pair_at source (place o) - 2
         → place o + 3 + i < 1024
         → times_at (count_clause s index p t) (place o + 3 + i) (256 * v + b) ≡ times_at t (place o + 3 + i) (256 * v + b)
-    step-off t h o i v b hb ne pos l low =
-        step-times t h (place o + 3 + i) (256 * v + b) low
+    step_off t h o i v b hb ne pos l low =
+        step_times t h (place o + 3 + i) (256 * v + b) low
         ∙ (ap (λ (a : ℕ). a + times_at t (place o + 3 + i) (256 * v + b))
-        (gain-none f.target (uses_of f k n) to first (place o + 3 + i) (256 * v + b)
+        (gain_none f.target (uses_of f k n) to first (place o + 3 + i) (256 * v + b)
         (λ a c d e.
         let u = used a c d e in
         by_test (eqb (key p) o)
@@ -267,14 +267,14 @@ module _ (source index s : List ℕ) (f : Translation) (z : Indexed index source
       (λ e. ⊎_elim (λ a. more a (eqb-false _ _ e)) (λ a. rw (a index t) same) (w.item p here))
 
   field_sound : (p : ℕ) (t : Tables) → Mem p (places s) → p ≤ field_end s p → Sound m t p → Sound m (count_clause s index p t) (field_end s p)
-  field_sound p t here l h = step_cases (λ a. Sound m a (field_end s p)) p t here (sound_on h (field_end s p) l) (λ a found. step-sound p a found t h)
+  field_sound p t here l h = step_cases (λ a. Sound m a (field_end s p)) p t here (sound_on h (field_end s p) l) (λ a found. step_sound p a found t h)
 
   field_off : (p : ℕ) (t : Tables) → Mem p (places s) → Sound m t p → (o i v b : ℕ) → b < 256 → (order_at 0x22 s p ≡ o * 256 + v → ⊥)
       → 0 < place o → i ≤ pair_at source (place o) - 2 → place o + 3 + i < 1024
       → times_at (count_clause s index p t) (place o + 3 + i) (256 * v + b) ≡ times_at t (place o + 3 + i) (256 * v + b)
   field_off p t here h o i v b hb ne pos l low =
       step_cases (λ a. times_at a (place o + 3 + i) (256 * v + b) ≡ times_at t (place o + 3 + i) (256 * v + b)) p t here refl
-      (λ a found. step-off p a found t h o i v b hb ne pos l low)
+      (λ a found. step_off p a found t h o i v b hb ne pos l low)
 
   module _ (o i v b : ℕ) (hb : b < 256) (pos : 0 < place o) (l : i ≤ pair_at source (place o) - 2) (low : place o + 3 + i < 1024) where
     -- Clauses of other keys and numbers leave the counts of a key and number.
@@ -301,7 +301,7 @@ module _ (source index s : List ℕ) (f : Translation) (z : Indexed index source
         kept ps (field_end s c) (λ d b. within d (inr b)) along.1 up (count_clause s index c t) (field_sound c t (within c (inl refl)) (up c) y)
         (λ d b' u. let o' = from_mem (order_at 0x22 s) ps r.1 b' in omega arith)
         ∙ (ap (λ (d : ℕ). times_at (count_clause s index d t) (place o + 3 + i) (256 * v + b)) (sym e)
-        ∙ rw (← ek, ← ev) (step-here p a (λ d. let d' : place o ≡ 0 = ap place (sym ek) ∙ d in omega arith) t (rw e y) i b (fits ek li)))
+        ∙ rw (← ek, ← ev) (step_here p a (λ d. let d' : place o ≡ 0 = ap place (sym ek) ∙ d in omega arith) t (rw e y) i b (fits ek li)))
       where
         fits : key p ≡ o → i ≤ length ks → i ≤ length (arguments p a (λ d. let d' : place o ≡ 0 = ap place (sym ek) ∙ d in omega arith)).0
         fits u li =
@@ -318,13 +318,14 @@ module _ (source index s : List ℕ) (f : Translation) (z : Indexed index source
         once ps (suc (order_at 0x22 s c)) (field_end s c) (λ d b. within d (inr b)) along.1 up r.1 p e a ek ev ks there li (count_clause s index c t)
         (field_sound c t (within c (inl refl)) (up c) y)
         ∙ ap (λ (d : ℕ). counted i b (code_of p) + d) (field_off c t (within c (inl refl)) y o i v b hb (λ d. omega arith) pos l low)
+    once [] g q within along up r p x11 a ek ev ks there li t h = elim x11 [ ]
 
   -- All clauses, from tables that are all zero.
   module _ (t : Tables) (h : Sound m t 0) (clear : (q y : ℕ) → times_at t q y ≡ 0) (along : Along s 0 (places s)) (up : (p : ℕ) → p ≤ field_end s p) where
-    pub all-times : (k n j u : ℕ) (ks : List ℕ) → k < 32 → n < 256 → arguments_of f.source k n ≡ some ks → mapping_of f.body k j ≡ some u
+    pub all_times : (k n j u : ℕ) (ks : List ℕ) → k < 32 → n < 256 → arguments_of f.source k n ≡ some ks → mapping_of f.body k j ≡ some u
         → (i b : ℕ) → i ≤ length ks → b < 256
         → times_at (count_all s index (places s) t) (place (production_key k n) + 3 + i) (256 * j + b) ≡ counted i b (clauses_of f k n j)
-    all-times k n j u ks hk hn there maps i b li hb =
+    all_times k n j u ks hk hn there maps i b li hb =
         let (p, mem, a, ek, en, ev) = w.every k n j u ks there maps in
         let r = room_of k n ks hk hn there in
         let d : key p ≡ production_key k n = ap (λ (a : ℕ). 32 + a) (clause_pair s p) ∙ rw (ek, en) in

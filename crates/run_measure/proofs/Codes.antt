@@ -14,7 +14,7 @@ use Rattle.format_fields.proofs.Truth.{by_test, none_some}
 use Rattle.format_fields.proofs.Split.{byte_drop}
 use Rattle.format_language.specs.Language.{Language}
 use Rattle.tree_reader.specs.Code.{Code, node, token, argument, Codes, nil, cons}
-use Rattle.tree_reader.specs.Typing.{Uses, kind_at, Typed, TypedAll, typed-node, typed-token, typed-argument, typed-nil, typed-cons}
+use Rattle.tree_reader.specs.Typing.{Uses, kind_at, Typed, TypedAll, typed_node, typed_token, typed_argument, typed_nil, typed_cons}
 use Rattle.tree_reader.specs.Syntax.{write, write_all, code}
 use Rattle.run_measure.specs.Inner.Sizes.{own, own_all, same_use, uses, uses_all}
 use Rattle.run_measure.specs.Inner.Counting.{Tables, times_at, add_sign, entry_of, amount_of, slot_of, by_of, step_of, count_sign, count_code}
@@ -56,30 +56,30 @@ module _ (s : List ℕ) (e to first : ℕ) where
   mutual
     unfolding write added amount_of slot_of by_of step_of
 
-    pub code-counted : (c : Code) (q : ℕ) (r : List ℕ) (t : Tables) → drop q s ≡ write code c ++ r → q + length (write code c) ≤ e
+    pub code_counted : (c : Code) (q : ℕ) (r : List ℕ) (t : Tables) → drop q s ≡ write code c ++ r → q + length (write code c) ≤ e
         → count_code s q e to first t ≡ count_code s (q + length (write code c)) e to first (added to first q c t)
-    code-counted (node k p u) q r t h l =
+    code_counted (node k p u) q r t h l =
         let d : drop (q + 2) s ≡ write_all code u ++ r = sym (drop-drop 2 q s) ∙ ap (drop 2) h in
         let j : q + 2 + length (write_all code u) ≡ q + length (write code (node k p u)) = omega arith in
         sign_turn q 1 p 0 t (at_0 q 1 (p ∷ write_all code u ++ r) h) (at_1 q 1 p (write_all code u ++ r) h) refl (omega arith)
-        ∙ (codes-counted u (q + 2) r (add_sign t q (to + 0) (first + 0) 1) d (omega arith) ∙ rw j)
-    code-counted (token v) q r t h l =
+        ∙ (codes_counted u (q + 2) r (add_sign t q (to + 0) (first + 0) 1) d (omega arith) ∙ rw j)
+    code_counted (token v) q r t h l =
         sign_turn q 2 (v / 256) 0 t (at_0 q 2 (v / 256 ∷ v % 256 ∷ r) h) (at_1 q 2 (v / 256) (v % 256 ∷ r) h) refl (omega arith)
-    code-counted (argument i zero) q r t h l =
+    code_counted (argument i zero) q r t h l =
         sign_turn q 3 i 0 t (at_0 q 3 (i ∷ r) h) (at_1 q 3 i r h) refl (omega arith)
-    code-counted (argument i (suc j)) q r t h l =
+    code_counted (argument i (suc j)) q r t h l =
         sign_turn q 4 i (suc j) t (at_0 q 4 (i ∷ suc j ∷ r) h) (at_1 q 4 i (suc j ∷ r) h) (at_2 q 4 i (suc j) r h) (omega arith)
 
-    pub codes-counted : (u : Codes) (q : ℕ) (r : List ℕ) (t : Tables) → drop q s ≡ write_all code u ++ r → q + length (write_all code u) ≤ e
+    pub codes_counted : (u : Codes) (q : ℕ) (r : List ℕ) (t : Tables) → drop q s ≡ write_all code u ++ r → q + length (write_all code u) ≤ e
         → count_code s q e to first t ≡ count_code s (q + length (write_all code u)) e to first (added_all to first q u t)
-    codes-counted nil q r t h l = let j : q + 0 ≡ q = omega arith in rw j
-    codes-counted (cons a u) q r t h l =
+    codes_counted nil q r t h l = let j : q + 0 ≡ q = omega arith in rw j
+    codes_counted (cons a u) q r t h l =
         let n = length-append (write code a) (write_all code u) in
         let f : drop q s ≡ write code a ++ (write_all code u ++ r) = h ∙ append_assoc (write code a) (write_all code u) r in
         let d : drop (q + length (write code a)) s ≡ write_all code u ++ r = rest_of s (write code a) (write_all code u ++ r) q f in
         let j : q + length (write code a) + length (write_all code u) ≡ q + length (write_all code (cons a u)) = omega arith in
-        code-counted a q (write_all code u ++ r) t f (omega arith)
-        ∙ (codes-counted u (q + length (write code a)) r (added to first q a t) d (omega arith) ∙ rw j)
+        code_counted a q (write_all code u ++ r) t f (omega arith)
+        ∙ (codes_counted u (q + length (write code a)) r (added to first q a t) d (omega arith) ∙ rw j)
 
 -- How much a code counts for a key at a position.
 unfoldable mutual
@@ -126,46 +126,46 @@ module _ (m : Language) (r : Uses) (l to first : ℕ) (able : Able l first r) (i
     unfolding added gain write
 
     -- The tables after a code are sound, and count what the code counts more.
-    pub added-sound : {a : Code} {k : ℕ} → Typed m r a k → (p : ℕ) (x : Tables) → p + length (write code a) ≤ 4096 → Sound l x p
+    pub added_sound : {a : Code} {k : ℕ} → Typed m r a k → (p : ℕ) (x : Tables) → p + length (write code a) ≤ 4096 → Sound l x p
         → Sound l (added to first p a x) (p + length (write code a))
-    added-sound (typed-node {t = t} e hs) p x h s =
-        let y = addedAll-sound hs (p + 2) (add_sign x p (to + 0) (first + 0) 1) (omega arith) (sign_on x p (to + 0) (first + 0) 1 (omega arith) (omega arith) s (p + 2) (omega arith)) in
+    added_sound (typed_node {t = t} e hs) p x h s =
+        let y = added_all_sound hs (p + 2) (add_sign x p (to + 0) (first + 0) 1) (omega arith) (sign_on x p (to + 0) (first + 0) 1 (omega arith) (omega arith) s (p + 2) (omega arith)) in
         sound_on y _ (omega arith)
-    added-sound (typed-token e g) p x h s = sign_on x p (to + 0) (first + 0) 2 (omega arith) (omega arith) s _ (omega arith)
-    added-sound (typed-argument {i = i} {j = zero} {k = k} e) p x h s = sign_on x p (to + i) (first + 0) 1 (omega arith) (inside i zero k e) s _ (omega arith)
-    added-sound (typed-argument {i = i} {j = suc j} {k = k} e) p x h s = sign_on x p (to + i) (first + suc j) 1 (omega arith) (inside i (suc j) k e) s _ (omega arith)
+    added_sound (typed_token e g) p x h s = sign_on x p (to + 0) (first + 0) 2 (omega arith) (omega arith) s _ (omega arith)
+    added_sound (typed_argument {i = i} {j = zero} {k = k} e) p x h s = sign_on x p (to + i) (first + 0) 1 (omega arith) (inside i zero k e) s _ (omega arith)
+    added_sound (typed_argument {i = i} {j = suc j} {k = k} e) p x h s = sign_on x p (to + i) (first + suc j) 1 (omega arith) (inside i (suc j) k e) s _ (omega arith)
 
-    addedAll-sound : {t : Codes} {ks : List ℕ} → TypedAll m r t ks → (p : ℕ) (x : Tables) → p + length (write_all code t) ≤ 4096 → Sound l x p
+    added_all_sound : {t : Codes} {ks : List ℕ} → TypedAll m r t ks → (p : ℕ) (x : Tables) → p + length (write_all code t) ≤ 4096 → Sound l x p
         → Sound l (added_all to first p t x) (p + length (write_all code t))
-    addedAll-sound typed-nil p x h s = sound_on s _ (omega arith)
-    addedAll-sound (typed-cons {a = a} {t = t} g gs) p x h s =
+    added_all_sound typed_nil p x h s = sound_on s _ (omega arith)
+    added_all_sound (typed_cons {a = a} {t = t} g gs) p x h s =
         let n = length-append (write code a) (write_all code t) in
-        let y = addedAll-sound gs (p + length (write code a)) (added to first p a x) (omega arith) (added-sound g p x (omega arith) s) in
+        let y = added_all_sound gs (p + length (write code a)) (added to first p a x) (omega arith) (added_sound g p x (omega arith) s) in
         sound_on y _ (omega arith)
 
   mutual
     unfolding added gain write
 
-    pub added-times : {a : Code} {k : ℕ} → Typed m r a k → (p : ℕ) (x : Tables) → p + length (write code a) ≤ 4096 → Sound l x p
+    pub added_times : {a : Code} {k : ℕ} → Typed m r a k → (p : ℕ) (x : Tables) → p + length (write code a) ≤ 4096 → Sound l x p
         → (q key : ℕ) → q < 1024 → times_at (added to first p a x) q key ≡ gain to first q key a + times_at x q key
-    added-times (typed-node {t = t} e hs) p x h s q key l =
+    added_times (typed_node {t = t} e hs) p x h s q key l =
         let y = sign_on x p (to + 0) (first + 0) 1 (omega arith) (omega arith) s (p + 2) (omega arith) in
-        let a = addedAll-times hs (p + 2) (add_sign x p (to + 0) (first + 0) 1) (omega arith) y q key l in
+        let a = added_all_times hs (p + 2) (add_sign x p (to + 0) (first + 0) 1) (omega arith) y q key l in
         let b = sign_adds x p (to + 0) (first + 0) 1 (omega arith) (omega arith) s.long s.fresh (own_room x s) q key l in
         omega arith
-    added-times (typed-token e g) p x h s q key l = sign_adds x p (to + 0) (first + 0) 2 (omega arith) (omega arith) s.long s.fresh (own_room x s) q key l
-    added-times (typed-argument {i = i} {j = zero} {k = k} e) p x h s q key l =
+    added_times (typed_token e g) p x h s q key l = sign_adds x p (to + 0) (first + 0) 2 (omega arith) (omega arith) s.long s.fresh (own_room x s) q key l
+    added_times (typed_argument {i = i} {j = zero} {k = k} e) p x h s q key l =
         sign_adds x p (to + i) (first + 0) 1 (omega arith) (inside i zero k e) s.long s.fresh (use_room x s i zero k e) q key l
-    added-times (typed-argument {i = i} {j = suc j} {k = k} e) p x h s q key l =
+    added_times (typed_argument {i = i} {j = suc j} {k = k} e) p x h s q key l =
         sign_adds x p (to + i) (first + suc j) 1 (omega arith) (inside i (suc j) k e) s.long s.fresh (use_room x s i (suc j) k e) q key l
 
-    addedAll-times : {t : Codes} {ks : List ℕ} → TypedAll m r t ks → (p : ℕ) (x : Tables) → p + length (write_all code t) ≤ 4096 → Sound l x p
+    added_all_times : {t : Codes} {ks : List ℕ} → TypedAll m r t ks → (p : ℕ) (x : Tables) → p + length (write_all code t) ≤ 4096 → Sound l x p
         → (q key : ℕ) → q < 1024 → times_at (added_all to first p t x) q key ≡ gain_all to first q key t + times_at x q key
-    addedAll-times typed-nil p x h s q key l = omega arith
-    addedAll-times (typed-cons {a = a} {t = t} g gs) p x h s q key l =
+    added_all_times typed_nil p x h s q key l = omega arith
+    added_all_times (typed_cons {a = a} {t = t} g gs) p x h s q key l =
         let n = length-append (write code a) (write_all code t) in
-        let y = addedAll-times gs (p + length (write code a)) (added to first p a x) (omega arith) (added-sound g p x (omega arith) s) q key l in
-        let z = added-times g p x (omega arith) s q key l in
+        let y = added_all_times gs (p + length (write code a)) (added to first p a x) (omega arith) (added_sound g p x (omega arith) s) q key l in
+        let z = added_times g p x (omega arith) s q key l in
         omega arith
 
 -- How much a code counts at 0, its own bytes, and at each argument, for a number.
@@ -210,52 +210,52 @@ module _ (l : Language) (r : Uses) (to first : ℕ) where
   mutual
     unfolding gain own uses
 
-    pub gain-counted : {a : Code} {k : ℕ} → Typed l r a k → (i j : ℕ) → gain to first (to + i) (first + j) a ≡ counted i j a
-    gain-counted (typed-node {t = t} e hs) zero zero =
-        let a = gainAll-counted hs zero zero in
+    pub gain_counted : {a : Code} {k : ℕ} → Typed l r a k → (i j : ℕ) → gain to first (to + i) (first + j) a ≡ counted i j a
+    gain_counted (typed_node {t = t} e hs) zero zero =
+        let a = gain_all_counted hs zero zero in
         let b = here_one to 0 0 first 0 (first + 0) 1 refl refl in omega arith
-    gain-counted (typed-node {t = t} e hs) zero (suc j) =
-        let a = gainAll-counted hs zero (suc j) in
+    gain_counted (typed_node {t = t} e hs) zero (suc j) =
+        let a = gain_all_counted hs zero (suc j) in
         let b = off_key to 0 (to + 0) first 0 (first + suc j) 1 (λ z. omega arith) in omega arith
-    gain-counted (typed-node {t = t} e hs) (suc i) j =
-        let a = gainAll-counted hs (suc i) j in
+    gain_counted (typed_node {t = t} e hs) (suc i) j =
+        let a = gain_all_counted hs (suc i) j in
         let b = off_place to 0 (to + suc i) first 0 (first + j) 1 (λ z. omega arith) in omega arith
-    gain-counted (typed-token e g) zero zero = here_one to 0 0 first 0 (first + 0) 2 refl refl
-    gain-counted (typed-token e g) zero (suc j) = off_key to 0 (to + 0) first 0 (first + suc j) 2 (λ z. omega arith)
-    gain-counted (typed-token e g) (suc i) j = off_place to 0 (to + suc i) first 0 (first + j) 2 (λ z. omega arith)
-    gain-counted (typed-argument {i = zero} e) i j = none_some e
-    gain-counted (typed-argument {i = suc a} {j = zero} e) zero zero = off_place to (suc a) (to + 0) first 0 (first + 0) 1 (λ z. omega arith)
-    gain-counted (typed-argument {i = suc a} {j = zero} e) zero (suc j) = off_place to (suc a) (to + 0) first 0 (first + suc j) 1 (λ z. omega arith)
-    gain-counted (typed-argument {i = suc a} {j = zero} e) (suc i) j = use_one to first a zero i j
-    gain-counted (typed-argument {i = suc a} {j = suc b} e) zero zero = off_place to (suc a) (to + 0) first (suc b) (first + 0) 1 (λ z. omega arith)
-    gain-counted (typed-argument {i = suc a} {j = suc b} e) zero (suc j) = off_place to (suc a) (to + 0) first (suc b) (first + suc j) 1 (λ z. omega arith)
-    gain-counted (typed-argument {i = suc a} {j = suc b} e) (suc i) j = use_one to first a (suc b) i j
+    gain_counted (typed_token e g) zero zero = here_one to 0 0 first 0 (first + 0) 2 refl refl
+    gain_counted (typed_token e g) zero (suc j) = off_key to 0 (to + 0) first 0 (first + suc j) 2 (λ z. omega arith)
+    gain_counted (typed_token e g) (suc i) j = off_place to 0 (to + suc i) first 0 (first + j) 2 (λ z. omega arith)
+    gain_counted (typed_argument {i = zero} e) i j = none_some e
+    gain_counted (typed_argument {i = suc a} {j = zero} e) zero zero = off_place to (suc a) (to + 0) first 0 (first + 0) 1 (λ z. omega arith)
+    gain_counted (typed_argument {i = suc a} {j = zero} e) zero (suc j) = off_place to (suc a) (to + 0) first 0 (first + suc j) 1 (λ z. omega arith)
+    gain_counted (typed_argument {i = suc a} {j = zero} e) (suc i) j = use_one to first a zero i j
+    gain_counted (typed_argument {i = suc a} {j = suc b} e) zero zero = off_place to (suc a) (to + 0) first (suc b) (first + 0) 1 (λ z. omega arith)
+    gain_counted (typed_argument {i = suc a} {j = suc b} e) zero (suc j) = off_place to (suc a) (to + 0) first (suc b) (first + suc j) 1 (λ z. omega arith)
+    gain_counted (typed_argument {i = suc a} {j = suc b} e) (suc i) j = use_one to first a (suc b) i j
 
-    gainAll-counted : {t : Codes} {ks : List ℕ} → TypedAll l r t ks → (i j : ℕ) → gain_all to first (to + i) (first + j) t ≡ counted_all i j t
-    gainAll-counted typed-nil zero zero = refl
-    gainAll-counted typed-nil zero (suc j) = refl
-    gainAll-counted typed-nil (suc i) j = refl
-    gainAll-counted (typed-cons g gs) zero zero = λ x. gain-counted g zero zero x + gainAll-counted gs zero zero x
-    gainAll-counted (typed-cons g gs) zero (suc j) = let a = gain-counted g zero (suc j) in let b = gainAll-counted gs zero (suc j) in omega arith
-    gainAll-counted (typed-cons g gs) (suc i) j = λ x. gain-counted g (suc i) j x + gainAll-counted gs (suc i) j x
+    gain_all_counted : {t : Codes} {ks : List ℕ} → TypedAll l r t ks → (i j : ℕ) → gain_all to first (to + i) (first + j) t ≡ counted_all i j t
+    gain_all_counted typed_nil zero zero = refl
+    gain_all_counted typed_nil zero (suc j) = refl
+    gain_all_counted typed_nil (suc i) j = refl
+    gain_all_counted (typed_cons g gs) zero zero = λ x. gain_counted g zero zero x + gain_all_counted gs zero zero x
+    gain_all_counted (typed_cons g gs) zero (suc j) = let a = gain_counted g zero (suc j) in let b = gain_all_counted gs zero (suc j) in omega arith
+    gain_all_counted (typed_cons g gs) (suc i) j = λ x. gain_counted g (suc i) j x + gain_all_counted gs (suc i) j x
 
   -- At another position, or for a key of another number, nothing.
   module _ (q x : ℕ) (out : (i j k : ℕ) → kind_at r i j ≡ some k → (to + i ≡ q → ⊥) ⊎ (first + j ≡ x → ⊥)) (other : (to + 0 ≡ q → ⊥) ⊎ (first + 0 ≡ x → ⊥)) where
-    own-none : (n : ℕ) → cond (eqb (to + 0) q && eqb (first + 0) x) n 0 ≡ 0
-    own-none n = ⊎_elim (λ h. off_place to 0 q first 0 x n h) (λ h. off_key to 0 q first 0 x n h) other
+    own_none : (n : ℕ) → cond (eqb (to + 0) q && eqb (first + 0) x) n 0 ≡ 0
+    own_none n = ⊎_elim (λ h. off_place to 0 q first 0 x n h) (λ h. off_key to 0 q first 0 x n h) other
 
-    use-none : (i j k : ℕ) → kind_at r i j ≡ some k → ◌≡◌ {A = ℕ} (cond (eqb (to + i) q && eqb (first + j) x) 1 0) 0
-    use-none i j k e = ⊎_elim (λ h. off_place to i q first j x 1 h) (λ h. off_key to i q first j x 1 h) (out i j k e)
+    use_none : (i j k : ℕ) → kind_at r i j ≡ some k → ◌≡◌ {A = ℕ} (cond (eqb (to + i) q && eqb (first + j) x) 1 0) 0
+    use_none i j k e = ⊎_elim (λ h. off_place to i q first j x 1 h) (λ h. off_key to i q first j x 1 h) (out i j k e)
 
     mutual
       unfolding gain
 
-      pub gain-none : {a : Code} {k : ℕ} → Typed l r a k → gain to first q x a ≡ 0
-      gain-none (typed-node e hs) = let a = gainAll-none hs in let b = own-none 1 in omega arith
-      gain-none (typed-token e g) = own-none 2
-      gain-none (typed-argument {i = i} {j = zero} {k = k} e) = use-none i zero k e
-      gain-none (typed-argument {i = i} {j = suc j} {k = k} e) = use-none i (suc j) k e
+      pub gain_none : {a : Code} {k : ℕ} → Typed l r a k → gain to first q x a ≡ 0
+      gain_none (typed_node e hs) = let a = gain_all_none hs in let b = own_none 1 in omega arith
+      gain_none (typed_token e g) = own_none 2
+      gain_none (typed_argument {i = i} {j = zero} {k = k} e) = use_none i zero k e
+      gain_none (typed_argument {i = i} {j = suc j} {k = k} e) = use_none i (suc j) k e
 
-      gainAll-none : {t : Codes} {ks : List ℕ} → TypedAll l r t ks → gain_all to first q x t ≡ 0
-      gainAll-none typed-nil = refl
-      gainAll-none (typed-cons g gs) = let a = gain-none g in let b = gainAll-none gs in omega arith
+      gain_all_none : {t : Codes} {ks : List ℕ} → TypedAll l r t ks → gain_all to first q x t ≡ 0
+      gain_all_none typed_nil = refl
+      gain_all_none (typed_cons g gs) = let a = gain_none g in let b = gain_all_none gs in omega arith

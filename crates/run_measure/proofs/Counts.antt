@@ -190,9 +190,9 @@ module _ (s index : List ℕ) (p : ℕ) (t : Tables) {place pair : ℕ} (er : pa
   clause_unknown h = cc (eq-eqb place 0 h)
 
   module _ (some : place ≡ 0 → ⊥) {e tag : ℕ} (et : tag ≡ get_or s p 0) (ee : e ≡ field_end s p) where
-    pub clause-plain : {more : Tables} → tag ≡ 0x23 → more ≡ count_code s (p + 5) e (place + 3) 0 t → more ≡ count_clause s index p t
+    pub clause_plain : {more : Tables} → tag ≡ 0x23 → more ≡ count_code s (p + 5) e (place + 3) 0 t → more ≡ count_clause s index p t
     unfolding count_clause
-    clause-plain h em = cc (eq-eqb _ _ h, ne_eqb place 0 some)
+    clause_plain h em = cc (eq-eqb _ _ h, ne_eqb place 0 some)
 
     pub clause_numbered : {more : Tables} {number : ℕ} → (tag ≡ 0x23 → ⊥) → tag ≡ 0x29 → number ≡ get_or s (p + 5) 0
         → more ≡ count_code s (p + 6) e (place + 3) (256 * number) t → more ≡ count_clause s index p t
@@ -237,13 +237,13 @@ module _ (s : List ℕ) (p n : ℕ) {tag : ℕ} (et : tag ≡ get_or s p 0) wher
   wider_other h = cc (ne_eqb _ _ h)
 
   module _ (is : tag ≡ 0x28) {number : ℕ} (en : number ≡ get_or s (p + 4) 0) where
-    pub wider-under : number < n → n ≡ wider_at s p n
+    pub wider_under : number < n → n ≡ wider_at s p n
     unfolding wider_at
-    wider-under h = cc (eq-eqb _ _ is, lt-ltb number n h)
+    wider_under h = cc (eq-eqb _ _ is, lt-ltb number n h)
 
-    pub wider-over : n ≤ number → number + 1 ≡ wider_at s p n
+    pub wider_over : n ≤ number → number + 1 ≡ wider_at s p n
     unfolding wider_at
-    wider-over h = cc (eq-eqb _ _ is, le-ltb number n h)
+    wider_over h = cc (eq-eqb _ _ is, le-ltb number n h)
 
 -- A width grows, and is over the number of each mapping.
 wider_grows : (s : List ℕ) (p n : ℕ) → (n ≤ wider_at s p n) × (get_or s p 0 ≡ 0x28 → get_or s (p + 4) 0 < wider_at s p n)
@@ -252,8 +252,8 @@ wider_grows s p n =
     (λ e.
     let is = eqb-true _ _ e in
     by_test (ltb (get_or s (p + 4) 0) n)
-    (λ d. let h = ltb-true _ _ d in let z = wider-under s p n refl is refl h in (omega arith, λ y. omega arith))
-    (λ d. let h = ltb-false _ _ d in let z = wider-over s p n refl is refl h in (omega arith, λ y. omega arith)))
+    (λ d. let h = ltb-true _ _ d in let z = wider_under s p n refl is refl h in (omega arith, λ y. omega arith))
+    (λ d. let h = ltb-false _ _ d in let z = wider_over s p n refl is refl h in (omega arith, λ y. omega arith)))
     (λ e. let z = wider_other s p n refl (eqb-false _ _ e) in (omega arith, λ y. absurd (eqb-false _ _ e y)))
 
 width_grows : (s l : List ℕ) (n : ℕ) → n ≤ width_in s l n
@@ -269,6 +269,7 @@ width_in_lem s (q ∷ l) n p (inl e) is =
     let c : get_or s (p + 4) 0 ≡ get_or s (q + 4) 0 = ap (λ (i : ℕ). get_or s (i + 4) 0) e in
     omega arith
 width_in_lem s (q ∷ l) n p (inr m) is = width_in_lem s l (wider_at s q n) p m is
+width_in_lem s [] n p x'' is = elim x'' [ ]
 
 pub width_over : (s : List ℕ) (p : ℕ) → Mem p (places s) → get_or s p 0 ≡ 0x28 → get_or s (p + 4) 0 < width_of s
 unfolding width_of

@@ -25,7 +25,7 @@ use Rattle.format_translation.specs.Running.{read_clause, clauses_of}
 use Rattle.format_translation.proofs.Lookup.{mapping_mem, mem_mapping}
 use Rattle.format_translation.proofs.Fitting.{Fitting, clause_code}
 use Rattle.run_measure.specs.Inner.Counting.{width_of}
-use Rattle.run_measure.proofs.Counts.{clause_unknown, clause-plain, clause_numbered, clause_other, width_over, width_some}
+use Rattle.run_measure.proofs.Counts.{clause_unknown, clause_plain, clause_numbered, clause_other, width_over, width_some}
 use Rattle.run_measure.proofs.Clauses.{ClauseAt, Nothing, Clauses, Apart, Along, number_at, start_at, clause_pair}
 
 -- The places of a file's fields, from q on: none before q, and no two fields overlap.
@@ -137,13 +137,13 @@ module _ (s : List ℕ) (f : Translation) (h : HoldsItems s f.body) (rises : Ris
         let (a, r) = fits.codes (get_or s (p + 3) 0) (get_or s (p + 4) 0) j (slice start (field_end s p) s) here in
         rw (en, es) (r ∙ ap (λ (c : Code). done c []) (sym (clause_code f rises (get_or s (p + 3) 0) (get_or s (p + 4) 0) j (slice start (field_end s p) s) a here r)))
 
-    has-at : (t : ℕ) × (mapping_of f.body (get_or s (p + 3) 0) (number_at s p) ≡ some t)
-    has-at =
+    has_at : (t : ℕ) × (mapping_of f.body (get_or s (p + 3) 0) (number_at s p) ≡ some t)
+    has_at =
         let (t, d) = (fits.clauses_only (get_or s (p + 3) 0) (get_or s (p + 4) 0) j (slice start (field_end s p) s) here).1 in
         (t, rw en (mem_mapping f.body rises (get_or s (p + 3) 0) j t d))
 
-    order-at : order_at 0x22 s p ≡ (32 + pair_at s (p + 3)) * 256 + number_at s p
-    order-at = rw en (clause_order s p j (slice start (field_end s p) s) (whole_at p m) is)
+    order_at_lem : order_at 0x22 s p ≡ (32 + pair_at s (p + 3)) * 256 + number_at s p
+    order_at_lem = rw en (clause_order s p j (slice start (field_end s p) s) (whole_at p m) is)
 
   plain_at : (p : ℕ) → Mem p (places s) → IsClause s p → ClauseAt s f p
   plain_at p m a =
@@ -156,10 +156,10 @@ module _ (s : List ℕ) (f : Translation) (h : HoldsItems s f.body) (rises : Ris
         ends = a.ends;
         from = rw es (omega arith);
         past = rw es a.past;
-        order = order-at p m 0 (p + 5) en es is;
+        order = order_at_lem p m 0 (p + 5) en es is;
         code = code_at_lem p m 0 (p + 5) en es is;
-        has = has-at p m 0 (p + 5) en es is;
-        counts = λ index x found. let z : 256 * 0 ≡ 0 = omega arith in rw (en, es, z) (sym (clause-plain s index p x refl refl found refl refl a.tag refl));
+        has = has_at p m 0 (p + 5) en es is;
+        counts = λ index x found. let z : 256 * 0 ≡ 0 = omega arith in rw (en, es, z) (sym (clause_plain s index p x refl refl found refl refl a.tag refl));
       }
 
   numbered_at_lem : (p : ℕ) → Mem p (places s) → IsNumberedClause s p → ClauseAt s f p
@@ -173,9 +173,9 @@ module _ (s : List ℕ) (f : Translation) (h : HoldsItems s f.body) (rises : Ris
         ends = a.ends;
         from = rw es (omega arith);
         past = rw es a.past;
-        order = order-at p m (get_or s (p + 5) 0) (p + 6) en es is;
+        order = order_at_lem p m (get_or s (p + 5) 0) (p + 6) en es is;
         code = code_at_lem p m (get_or s (p + 5) 0) (p + 6) en es is;
-        has = has-at p m (get_or s (p + 5) 0) (p + 6) en es is;
+        has = has_at p m (get_or s (p + 5) 0) (p + 6) en es is;
         counts = λ index x found.
             rw (en, es) (sym (clause_numbered s index p x refl refl found refl refl (λ d. let z = a.tag in omega arith) a.tag refl refl));
       }

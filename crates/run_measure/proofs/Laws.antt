@@ -43,14 +43,14 @@ module _ (sum weight length top : ℕ) (under : sum ≤ top) where
     positive : 0 < length
     positive = omega arith
 
-    pub share-over : (top - sum) / length < weight → top ≡ capped top (sum + weight * length)
-    share-over h = let k = (div-lt_iff_lt-mul positive).0 h in omega arith
+    pub share_over : (top - sum) / length < weight → top ≡ capped top (sum + weight * length)
+    share_over h = let k = (div-lt_iff_lt-mul positive).0 h in omega arith
 
-    pub share-fits : weight ≤ (top - sum) / length → (weight * length ≤ top) × (sum + weight * length ≤ top)
-    share-fits h = let k : weight * length ≤ top - sum = (le-div_iff_mul-le positive).0 h in omega arith
+    pub share_fits : weight ≤ (top - sum) / length → (weight * length ≤ top) × (sum + weight * length ≤ top)
+    share_fits h = let k : weight * length ≤ top - sum = (le-div_iff_mul-le positive).0 h in omega arith
 
-    pub share-under : weight ≤ (top - sum) / length → sum + weight * length ≡ capped top (sum + weight * length)
-    share-under h = let k = share-fits h in omega arith
+    pub share_under : weight ≤ (top - sum) / length → sum + weight * length ≡ capped top (sum + weight * length)
+    share_under h = let k = share_fits h in omega arith
 
 -- leaf
 pub leaf_end : (top total sum cost : ℕ) {r : Read} {e n : ℕ} → r ≡ Read.End e → n ≡ capped top (sum + total * 2) → Step.Row 0 0 e n cost ≡ leaf_step top total sum cost r
@@ -78,13 +78,13 @@ token_past s class b at P h k = go (eqb class 0) (ltb (length b - at) 2) (in_ran
     go false false true = k
 
 no_levels : (s : List ℕ) (class : ℕ) (b : List ℕ) (at : ℕ) {r : Read} → r ≡ token_at s class b at → r ≡ Read.Deep → ⊥
-no_levels s class b at er e = token_past s class b at (λ (u : Read). u ≡ Read.Deep → ⊥) none_deep end-deep (sym er ∙ e)
+no_levels s class b at er e = token_past s class b at (λ (u : Read). u ≡ Read.Deep → ⊥) none_deep end_deep (sym er ∙ e)
   where
     none_deep : Read.Broken ≡ Read.Deep → ⊥
     none_deep z = let y : ◌≡◌ {A = ℕ} 0 1 = cc in omega arith
 
-    end-deep : {e : ℕ} → Read.End e ≡ Read.Deep → ⊥
-    end-deep z = let y : ◌≡◌ {A = ℕ} 0 1 = cc in omega arith
+    end_deep : {e : ℕ} → Read.End e ≡ Read.Deep → ⊥
+    end_deep z = let y : ◌≡◌ {A = ℕ} 0 1 = cc in omega arith
 
 -- A token goes on behind its two bytes.
 pub token_in : (s : List ℕ) (class : ℕ) (b : List ℕ) (top w at sum cost : ℕ) → cost ≤ top → {r : Read} → r ≡ token_at s class b at
@@ -113,9 +113,9 @@ module _ (s index : List ℕ) (v : Weighing) (b : List ℕ) (top : ℕ) (w : Wei
   -- A production's name.
   module _ (place n : ℕ) {c : ℕ} (h : Operands (place + 4) (place + 2 + n) (at + 1) ≡ node_at Tree s index [] k b at)
       (ec : c ≡ v (place + 3) w 0) {o : ℕ} (eo : o ≡ capped top (sum + c)) {total u : ℕ} (et : total ≡ sum_of top w) (eu : u ≡ capped top (cost + total)) where
-    pub name-goes : Goes (Step.Row (place + 4) (place + 2 + n) (at + 1) o u)
+    pub name_goes : Goes (Step.Row (place + 4) (place + 2 + n) (at + 1) o u)
     unfolding down_at
-    name-goes m =
+    name_goes m =
         let z : place + 4 - 1 ≡ place + 3 = omega arith in
         rw (← h, z, ← ec, ← eo, ← et, ← eu)
 
@@ -143,11 +143,11 @@ module _ (s index b : List ℕ) (k at : ℕ) where
   read_one (suc n) h = let z : suc n - 1 ≡ n = omega arith in rw z
 
   module _ (v : Weighing) (top : ℕ) (w : Weights) (sum cost : ℕ) where
-    down-one : (n : ℕ) → out_of_levels index k n ≡ false
+    down_one : (n : ℕ) → out_of_levels index k n ≡ false
         → down_at s index v b top n w k at sum cost ≡ down_at s index v b top (suc (n - 1)) w k at sum cost
     unfolding out_of_levels down_at
-    down-one zero h = let c = eqb-false (get_or index k 0) 0 h in cc (class_past c, class_node c)
-    down-one (suc n) h = let z : suc n - 1 ≡ n = omega arith in rw z
+    down_one zero h = let c = eqb-false (get_or index k 0) 0 h in cc (class_past c, class_node c)
+    down_one (suc n) h = let z : suc n - 1 ≡ n = omega arith in rw z
 
     down_out : (n : ℕ) → out_of_levels index k n ≡ true → down_at s index v b top n w k at sum cost ≡ Deep
     unfolding out_of_levels down_at
@@ -241,13 +241,13 @@ module _ (s index : List ℕ) (v : Weighing) (b : List ℕ) (top levels : ℕ) w
     rest_broken zero = refl
     rest_broken (suc d) = refl
 
-    rest-none : (r : Measured) → rest 0 r ≡ r
+    rest_none : (r : Measured) → rest 0 r ≡ r
     unfolding unwind
-    rest-none r = refl
+    rest_none r = refl
 
-    rest-one : (d to sum cost : ℕ) → rest (suc d) (End to sum cost) ≡ rest d (row d (rows d) (get_or firsts d 0) (get_or lasts d 0) to sum cost)
+    rest_one : (d to sum cost : ℕ) → rest (suc d) (End to sum cost) ≡ rest d (row d (rows d) (get_or firsts d 0) (get_or lasts d 0) to sum cost)
     unfolding unwind
-    rest-one d to sum cost = refl
+    rest_one d to sum cost = refl
 
   -- Only what stands at the rows that wait counts.
   rest_same : (firsts lasts f l : List ℕ) (rows r : ℕ → Weights) (d : ℕ) (x : Measured)
@@ -263,13 +263,13 @@ module _ (s index : List ℕ) (v : Weighing) (b : List ℕ) (top levels : ℕ) w
 
   -- A row that is put behind the others waits; those before it stay.
   module _ (firsts lasts : List ℕ) (rows r : ℕ → Weights) (d q e : ℕ) (same : (j : ℕ) → j ≤ d → r j ≡ rows j) where
-    abbrev rest-before : ℕ → Measured → Measured
-    rest-before j x = unwind s index v b top levels firsts lasts rows j x
+    abbrev rest_before : ℕ → Measured → Measured
+    rest_before j x = unwind s index v b top levels firsts lasts rows j x
 
     abbrev rest_then : ℕ → Measured → Measured
     rest_then j x = unwind s index v b top levels (set firsts d q) (set lasts d e) r j x
 
-    kept : (x : Measured) → rest_then d x ≡ rest-before d x
+    kept : (x : Measured) → rest_then d x ≡ rest_before d x
     kept x =
         rest_same firsts lasts (set firsts d q) (set lasts d e) rows r d x
         (λ j h.
@@ -280,25 +280,25 @@ module _ (s index : List ℕ) (v : Weighing) (b : List ℕ) (top levels : ℕ) w
     one_more x = let y : suc d ≡ d + 1 = omega arith in ap (λ (j : ℕ). rest_then j x) y
 
     push : d < length firsts → d < length lasts → (x : Measured)
-        → rest-before d (after x (λ t a c. row d (rows d) q e t a c)) ≡ rest_then (d + 1) x
+        → rest_before d (after x (λ t a c. row d (rows d) q e t a c)) ≡ rest_then (d + 1) x
     push hf hl (End to sum cost) =
         let z : row d (r d) (get_or (set firsts d q) d 0) (get_or (set lasts d e) d 0) to sum cost ≡ row d (rows d) q e to sum cost =
         rw (get_or-set_same firsts d q 0 hf, get_or-set_same lasts d e 0 hl, same d (omega arith)) in
         sym (kept (row d (rows d) q e to sum cost))
-        ∙ (ap (rest_then d) (sym z) ∙ (sym (rest-one (set firsts d q) (set lasts d e) r d to sum cost) ∙ one_more (End to sum cost)))
+        ∙ (ap (rest_then d) (sym z) ∙ (sym (rest_one (set firsts d q) (set lasts d e) r d to sum cost) ∙ one_more (End to sum cost)))
     push hf hl Deep = rest_deep firsts lasts rows d ∙ sym (rest_deep (set firsts d q) (set lasts d e) r (d + 1))
     push hf hl Broken = rest_broken firsts lasts rows d ∙ sym (rest_broken (set firsts d q) (set lasts d e) r (d + 1))
 
   module _ (firsts lasts : List ℕ) (rows : ℕ → Weights) where
     pub rows_start : (q e to sum cost : ℕ) → rest firsts lasts rows 0 (row 0 (rows 0) q e to sum cost) ≡ down_row s index v b top levels (rows 0) q e to sum cost
-    rows_start q e to sum cost = rest-none firsts lasts rows _ ∙ (let z : levels - 0 ≡ levels = omega arith in rw z)
+    rows_start q e to sum cost = rest_none firsts lasts rows _ ∙ (let z : levels - 0 ≡ levels = omega arith in rw z)
 
     module _ (d q e to sum cost : ℕ) where
       abbrev left : Measured
       left = rest firsts lasts rows d (row d (rows d) q e to sum cost)
 
-      pub rows-done : e ≤ q → d ≡ 0 → left ≡ End to sum cost
-      rows-done h y = ap (rest firsts lasts rows d) (row_done _ (rows d) q e to sum cost h) ∙ (rw y (rest-none firsts lasts rows (End to sum cost)))
+      pub rows_done : e ≤ q → d ≡ 0 → left ≡ End to sum cost
+      rows_done h y = ap (rest firsts lasts rows d) (row_done _ (rows d) q e to sum cost h) ∙ (rw y (rest_none firsts lasts rows (End to sum cost)))
 
       -- The rows that wait have stayed.
       pub rows_back : {c : ℕ} → e ≤ q → (d ≡ 0 → ⊥) → (r : ℕ → Weights) → ((j : ℕ) → j ≤ c → r j ≡ rows j) → c ≡ d - 1
@@ -306,13 +306,13 @@ module _ (s index : List ℕ) (v : Weighing) (b : List ℕ) (top levels : ℕ) w
       rows_back {c} h y r same ec =
           ap (rest firsts lasts rows d) (row_done _ (rows d) q e to sum cost h)
           ∙ ((let z : d ≡ suc c = omega arith in ap (λ (j : ℕ). rest firsts lasts rows j (End to sum cost)) z)
-          ∙ (rest-one firsts lasts rows c to sum cost
+          ∙ (rest_one firsts lasts rows c to sum cost
           ∙ (sym (rest_same firsts lasts firsts lasts rows r c (row c (rows c) (get_or firsts c 0) (get_or lasts c 0) to sum cost) (λ j l. (refl, refl, same j (omega arith))))
           ∙ rw (same c (omega arith)))))
 
       module _ (more : q < e) where
-        pub rows-deep : out_of_levels index (get_or s q 0) (levels - d) ≡ true → left ≡ Deep
-        rows-deep y =
+        pub rows_deep : out_of_levels index (get_or s q 0) (levels - d) ≡ true → left ≡ Deep
+        rows_deep y =
             let z = down_out s index b (get_or s q 0) to v top (v q (rows d)) sum cost (levels - d) y in
             ap (rest firsts lasts rows d) (row_next (levels - d) (rows d) q e to sum cost more ∙ rw z) ∙ rest_deep firsts lasts rows d
 
@@ -322,27 +322,27 @@ module _ (s index : List ℕ) (v : Weighing) (b : List ℕ) (top levels : ℕ) w
           row_step =
               let z : suc (levels - d - 1) ≡ suc (levels - (d + 1)) = omega arith in
               let y : down_at s index v b top (levels - d) (v q (rows d)) (get_or s q 0) to sum cost ≡ goes_on s index v b top (levels - (d + 1)) part x =
-              down-one s index b (get_or s q 0) to v top (v q (rows d)) sum cost (levels - d) under ∙ rw (← ep, z) (sym (goes (levels - (d + 1)))) in
+              down_one s index b (get_or s q 0) to v top (v q (rows d)) sum cost (levels - d) under ∙ rw (← ep, z) (sym (goes (levels - (d + 1)))) in
               row_next (levels - d) (rows d) q e to sum cost more ∙ ap (λ (r : Measured). after r (λ t a c. row d (rows d) (q + 1) e t a c)) y
 
-          pub rows-broken : x ≡ Step.Broken → left ≡ Broken
-          rows-broken y = ap (rest firsts lasts rows d) (row_step ∙ rw y) ∙ rest_broken firsts lasts rows d
+          pub rows_broken : x ≡ Step.Broken → left ≡ Broken
+          rows_broken y = ap (rest firsts lasts rows d) (row_step ∙ rw y) ∙ rest_broken firsts lasts rows d
 
           -- The rows after it: those that wait and this one have stayed, and the next one's weights are those of what was found.
           module _ {first last t n u : ℕ} (ex : x ≡ Step.Row first last t n u) (r : ℕ → Weights) (same : (j : ℕ) → j ≤ d → r j ≡ rows j) where
-            row-row : row d (rows d) q e to sum cost ≡ after (row (d + 1) part first last t n u) (λ t a c. row d (rows d) (q + 1) e t a c)
-            row-row = row_step ∙ rw ex
+            row_row : row d (rows d) q e to sum cost ≡ after (row (d + 1) part first last t n u) (λ t a c. row d (rows d) (q + 1) e t a c)
+            row_row = row_step ∙ rw ex
 
             pub rows_on : last ≤ first → left ≡ rest firsts lasts r d (row d (r d) (q + 1) e t n u)
             rows_on h =
-                ap (rest firsts lasts rows d) (row-row ∙ rw (row_done (levels - (d + 1)) part first last t n u h))
+                ap (rest firsts lasts rows d) (row_row ∙ rw (row_done (levels - (d + 1)) part first last t n u h))
                 ∙ (sym (rest_same firsts lasts firsts lasts rows r d (row d (rows d) (q + 1) e t n u) (λ j l. (refl, refl, same j (omega arith))))
                 ∙ rw (same d (omega arith)))
 
-            pub rows-down : {c : ℕ} → c ≡ d + 1 → d < length firsts → d < length lasts → r (d + 1) ≡ part
+            pub rows_down : {c : ℕ} → c ≡ d + 1 → d < length firsts → d < length lasts → r (d + 1) ≡ part
                 → left ≡ unwind s index v b top levels (set firsts d (q + 1)) (set lasts d e) r c (row c (r c) first last t n u)
-            rows-down {c} ec hf hl part_is =
-                ap (rest firsts lasts rows d) row-row
+            rows_down {c} ec hf hl part_is =
+                ap (rest firsts lasts rows d) row_row
                 ∙ (push firsts lasts rows r d (q + 1) e same hf hl (row (d + 1) part first last t n u)
                 ∙ (ap (λ (p : Weights). unwind s index v b top levels (set firsts d (q + 1)) (set lasts d e) r (d + 1) (row (d + 1) p first last t n u)) (sym part_is)
                 ∙ ap (λ (j : ℕ). unwind s index v b top levels (set firsts d (q + 1)) (set lasts d e) r j (row j (r j) first last t n u)) (sym ec)))

@@ -109,19 +109,19 @@ module _ (s index b : List ℕ) (levels : ℕ) where
 
   module _ (firsts lasts starts : List ℕ) where
     -- The deepest term has ended.
-    decided-ends : (d to : ℕ) → (d ≡ 0 → ⊥) → Decided firsts lasts starts d (End to)
+    decided_ends : (d to : ℕ) → (d ≡ 0 → ⊥) → Decided firsts lasts starts d (End to)
         → (term (d - 1) (get_or s (get_or firsts (d - 1) 0 - 1) 0) (get_or starts (d - 1) 0) ≡ End to)
         × Decided firsts lasts starts (d - 1) (row (d - 1) (get_or firsts (d - 1) 0) (get_or lasts (d - 1) 0) to)
     unfolding Decided
-    decided-ends zero to some h = absurd (some refl)
-    decided-ends (suc d) to some h = let z : suc d - 1 ≡ d = omega arith in rw z h
+    decided_ends zero to some h = absurd (some refl)
+    decided_ends (suc d) to some h = let z : suc d - 1 ≡ d = omega arith in rw z h
 
   -- A term that was just found is open, above the others.
   module _ (firsts lasts starts : List ℕ) (d q e to : ℕ) (hf : d < length firsts) (hl : d < length lasts) (hs : d < length starts) (r : Read) where
-    decided-one : term d (get_or s q 0) to ≡ r → Decided firsts lasts starts d (behind r (λ t. row d (q + 1) e t))
+    decided_one : term d (get_or s q 0) to ≡ r → Decided firsts lasts starts d (behind r (λ t. row d (q + 1) e t))
         → Decided (set firsts d (q + 1)) (set lasts d e) (set starts d to) (suc d) r
     unfolding Decided
-    decided-one h k =
+    decided_one h k =
         let z : q + 1 - 1 ≡ q = omega arith in
         rw (get_or-set_same firsts d (q + 1) 0 hf, get_or-set_same lasts d e 0 hl, get_or-set_same starts d to 0 hs, z) (
           h,
@@ -132,11 +132,11 @@ module _ (s index b : List ℕ) (levels : ℕ) where
               k,
         )
 
-    decided-down : term d (get_or s q 0) to ≡ r → Decided firsts lasts starts d (behind r (λ t. row d (q + 1) e t))
+    decided_down : term d (get_or s q 0) to ≡ r → Decided firsts lasts starts d (behind r (λ t. row d (q + 1) e t))
         → Decided (set firsts d (q + 1)) (set lasts d e) (set starts d to) (d + 1) r
-    decided-down h k =
+    decided_down h k =
         let z : suc d ≡ d + 1 = omega arith in
-        subst (λ (j : ℕ). Decided (set firsts d (q + 1)) (set lasts d e) (set starts d to) j r) z (decided-one h k)
+        subst (λ (j : ℕ). Decided (set firsts d (q + 1)) (set lasts d e) (set starts d to) j r) z (decided_one h k)
 
 -- Each open term has its kind in the source before the row that waits, and began no later than here.
 abbrev Begun : List ℕ → List ℕ → List ℕ → ℕ → ℕ → Type 0
@@ -164,16 +164,16 @@ module _ (s index b : List ℕ) (levels : ℕ) where
 
   module _ {before firsts lasts starts ends : List ℕ} {d q e to : ℕ} (o : Learning s index b levels before firsts lasts starts ends d q e to) where
     -- The deepest open term.
-    pub learn-in : (d ≡ 0 → ⊥)
+    pub learn_in : (d ≡ 0 → ⊥)
         → (0 < get_or firsts (d - 1) 0) × (get_or firsts (d - 1) 0 - 1 < length s) × (get_or s (get_or firsts (d - 1) 0 - 1) 0 < 32) × (get_or starts (d - 1) 0 ≤ to)
-    learn-in some = o.begun (d - 1) (omega arith)
+    learn_in some = o.begun (d - 1) (omega arith)
 
     -- It ends, and its end may be kept.
-    pub learn-back : {after : List ℕ} → e ≤ q → (d ≡ 0 → ⊥) → to ≤ length b
+    pub learn_back : {after : List ℕ} → e ≤ q → (d ≡ 0 → ⊥) → to ≤ length b
         → ((k p x : ℕ) → Kept after k p x → Kept ends k p x ⊎ ((k ≡ get_or s (get_or firsts (d - 1) 0 - 1) 0) × (p ≡ get_or starts (d - 1) 0) × (x ≡ to)))
         → Learning s index b levels before firsts lasts starts after (d - 1) (get_or firsts (d - 1) 0) (get_or lasts (d - 1) 0) to
-    learn-back h some inside more =
-        let z = decided-ends s index b levels firsts lasts starts d to some
+    learn_back h some inside more =
+        let z = decided_ends s index b levels firsts lasts starts d to some
         (subst (λ (r : Read). Decided s index b levels firsts lasts starts d r) (row_done s index b levels d q e to h) o.decided) in
         record {
           start_long = o.start_long;
@@ -196,8 +196,8 @@ module _ (s index b : List ℕ) (levels : ℕ) where
           ∙ ap (λ (r : Read). behind r (λ a. row s index b levels d (q + 1) e a)) found
 
       -- A term without operands has ended; where it starts is written above the open ones.
-      pub learn-on : last ≤ first → Learning s index b levels before firsts lasts (set starts d to) ends d (q + 1) e t
-      learn-on h =
+      pub learn_on : last ≤ first → Learning s index b levels before firsts lasts (set starts d to) ends d (q + 1) e t
+      learn_on h =
           let z : row s index b levels d q e to ≡ row s index b levels d (q + 1) e t =
           whole ∙ ap (λ (r : Read). behind r (λ a. row s index b levels d (q + 1) e a)) (row_done s index b levels (d + 1) first last t h) in
           let kept : (j : ℕ) → j < d → get_or (set starts d to) j 0 ≡ get_or starts j 0 =
@@ -226,15 +226,15 @@ module _ (s index b : List ℕ) (levels : ℕ) where
             rw (get_or-set_other firsts d j (q + 1) 0 y, get_or-set_other starts d j to 0 y) (w.0, w.1, w.2, omega (arith, w.3)))
 
         -- A term whose operands follow is open.
-        pub learn-down : Learning s index b levels before (set firsts d (q + 1)) (set lasts d e) (set starts d to) ends (d + 1) first last t
-        learn-down =
+        pub learn_down : Learning s index b levels before (set firsts d (q + 1)) (set lasts d e) (set starts d to) ends (d + 1) first last t
+        learn_down =
             let kf : d < length firsts = omega arith in
             let kl : d < length lasts = omega arith in
             let ks : d < length starts = omega (arith, o.start_long) in
             record {
               start_long = length-set starts d to ∙ o.start_long;
               begun = begins;
-              decided = decided-down s index b levels firsts lasts starts d q e to kf kl ks (row s index b levels (d + 1) first last t) found
+              decided = decided_down s index b levels firsts lasts starts d q e to kf kl ks (row s index b levels (d + 1) first last t) found
                   (subst (λ (r : Read). Decided s index b levels firsts lasts starts d r) whole o.decided);
               learnt = o.learnt;
             }

@@ -17,7 +17,7 @@ use Rattle.format_fields.proofs.Lists.{part_done, part_next}
 use Rattle.format_fields.proofs.Split.{front}
 use Rattle.format_language.specs.Language.{Language, Range, range_of, arguments_of, in_range, production_key}
 use Rattle.tree_reader.specs.Code.{Code, node, token, Codes, cons, nil}
-use Rattle.tree_reader.specs.Typing.{Uses, kind_at, Typed, TypedAll, typed-node, typed-token, typed-argument, typed-nil, typed-cons}
+use Rattle.tree_reader.specs.Typing.{Uses, kind_at, Typed, TypedAll, typed_node, typed_token, typed_argument, typed_nil, typed_cons}
 use Rattle.tree_reader.specs.Syntax as Meant
 use Rattle.tree_reader.specs.Syntax.{and_then, read_all, read_operands, read_node, read_token, read_tree_level, read_level, current, past_levels}
 use Rattle.tree_reader.specs.declared.node.Syntax.TheVariants.{Tree}
@@ -43,7 +43,7 @@ use Rattle.run_measure.specs.Inner.Weighing.{Weights, weigh_at, sum_of, once_by}
 use Rattle.run_measure.specs.Inner.Descent.{Weighing, leaf_down, down_from, weigh_down, down_at, down_row, goes_on}
 use Rattle.run_measure.specs.Inner.Measuring.{Sized, sized, deep, broken, sized_at, sized_of, Counted}
 use Rattle.run_measure.proofs.Sums.{weighted_none, weighted_zero, weighted_alike, weighted_pick, weighted_times, none_of, of_none, once_of, capped_weighted}
-use Rattle.run_measure.proofs.Sizes.{Bounded, BoundedAll, miss_first, miss_second, run-amount, cost-amount, node_amount}
+use Rattle.run_measure.proofs.Sizes.{Bounded, BoundedAll, miss_first, miss_second, run_amount, cost_amount, node_amount}
 use Rattle.run_measure.proofs.Clauses.{get_inside, use_of_lem}
 use Rattle.run_measure.proofs.Laws.{Goes}
 
@@ -88,30 +88,30 @@ module _ (l : Language) (r : Uses) (i m : ℕ) (off : (t : ℕ) → kind_at r i 
     unfolding uses
 
     unused : {a : Code} {k : ℕ} → Typed l r a k → uses i m a ≡ 0
-    unused (typed-node e h) = unusedAll h
-    unused (typed-token e g) = refl
-    unused (typed-argument {i = a} {j = b} {k = k} e) =
+    unused (typed_node e h) = unused_all h
+    unused (typed_token e g) = refl
+    unused (typed_argument {i = a} {j = b} {k = k} e) =
         by_test (eqb a i)
         (λ t.
         let x = eqb-true a i t in
         miss_second a b i m (λ y. off k (rw (← x, ← y) e)))
         (λ t. miss_first a b i m (eqb-false a i t))
 
-    unusedAll : {t : Codes} {ks : List ℕ} → TypedAll l r t ks → uses_all i m t ≡ 0
-    unusedAll typed-nil = refl
-    unusedAll (typed-cons h hs) = λ x. unused h x + unusedAll hs x
+    unused_all : {t : Codes} {ks : List ℕ} → TypedAll l r t ks → uses_all i m t ≡ 0
+    unused_all typed_nil = refl
+    unused_all (typed_cons h hs) = λ x. unused h x + unused_all hs x
 
 -- Uses of a typed code are of the arguments and numbers that there are.
 module _ (l : Language) (r : Uses) (n : ℕ) (in_bounds : (i m t : ℕ) → kind_at r i m ≡ some t → (1 ≤ i) × (i ≤ n) × (m < numbers)) where
   mutual
     bounded : {a : Code} {k : ℕ} → Typed l r a k → Bounded n a
-    bounded (typed-node e h) = boundedAll h
-    bounded (typed-token e g) = tt
-    bounded (typed-argument {i = i} {j = j} {k = k} e) = in_bounds i j k e
+    bounded (typed_node e h) = bounded_all h
+    bounded (typed_token e g) = tt
+    bounded (typed_argument {i = i} {j = j} {k = k} e) = in_bounds i j k e
 
-    boundedAll : {t : Codes} {ks : List ℕ} → TypedAll l r t ks → BoundedAll n t
-    boundedAll typed-nil = tt
-    boundedAll (typed-cons h hs) = (bounded h, boundedAll hs)
+    bounded_all : {t : Codes} {ks : List ℕ} → TypedAll l r t ks → BoundedAll n t
+    bounded_all typed_nil = tt
+    bounded_all (typed_cons h hs) = (bounded h, bounded_all hs)
 
 -- What operands come to, up to the top, by weights that are so up to the top.
 all_capped : (e : Code → ℕ) (z top : ℕ) (f : ℕ → ℕ → ℕ → Code) (u v : ℕ → ℕ → ℕ) (t : Codes)
@@ -157,25 +157,25 @@ module _ (f : Translation) (top : ℕ) where
   Supported w k = (j : ℕ) → mapping_of f.body k j ≡ none → w j ≡ 0
 
   -- What is measured of a tree with weights w, on top of a length n and a cost c.
-  abbrev sizedBy : Weights → ℕ → ℕ → Meant.Read Code → Sized
-  sizedBy w n c (Meant.done t r) =
+  abbrev sized_by : Weights → ℕ → ℕ → Meant.Read Code → Sized
+  sized_by w n c (Meant.done t r) =
       sized r (capped top (n + weighted w (λ j. amount own 2 codes j t))) (capped top (c + weighted w (λ j. amount (λ a. 1) 0 codes j t)))
-  sizedBy w n c Meant.deep = deep
-  sizedBy w n c Meant.broken = broken
+  sized_by w n c Meant.deep = deep
+  sized_by w n c Meant.broken = broken
 
-  by_done : (w : Weights) (n c : ℕ) (o : Meant.Read Code) (u : List ℕ) (a d : ℕ) → sizedBy w n c o ≡ sized u a d
+  by_done : (w : Weights) (n c : ℕ) (o : Meant.Read Code) (u : List ℕ) (a d : ℕ) → sized_by w n c o ≡ sized u a d
       → (t : Code) × (o ≡ Meant.done t u) × (a ≡ capped top (n + weighted w (λ j. amount own 2 codes j t)))
       × (d ≡ capped top (c + weighted w (λ j. amount (λ a. 1) 0 codes j t)))
   by_done w n c (Meant.done t r) u a d e = (t, cc, cc, cc)
   by_done w n c Meant.deep u a d e = let z : ◌≡◌ {A = ℕ} 0 1 = cc in absurd (omega arith)
   by_done w n c Meant.broken u a d e = let z : ◌≡◌ {A = ℕ} 0 1 = cc in absurd (omega arith)
 
-  by_deep : (w : Weights) (n c : ℕ) (o : Meant.Read Code) → sizedBy w n c o ≡ deep → o ≡ Meant.deep
+  by_deep : (w : Weights) (n c : ℕ) (o : Meant.Read Code) → sized_by w n c o ≡ deep → o ≡ Meant.deep
   by_deep w n c (Meant.done a r) e = let z : ◌≡◌ {A = ℕ} 0 1 = cc in absurd (omega arith)
   by_deep w n c Meant.deep e = refl
   by_deep w n c Meant.broken e = let z : ◌≡◌ {A = ℕ} 0 1 = cc in absurd (omega arith)
 
-  by_broken : (w : Weights) (n c : ℕ) (o : Meant.Read Code) → sizedBy w n c o ≡ broken → o ≡ Meant.broken
+  by_broken : (w : Weights) (n c : ℕ) (o : Meant.Read Code) → sized_by w n c o ≡ broken → o ≡ Meant.broken
   by_broken w n c (Meant.done a r) e = let z : ◌≡◌ {A = ℕ} 0 1 = cc in absurd (omega arith)
   by_broken w n c Meant.deep e = let z : ◌≡◌ {A = ℕ} 0 1 = cc in absurd (omega arith)
   by_broken w n c Meant.broken e = refl
@@ -215,7 +215,7 @@ module _ (f : Translation) (top : ℕ) where
       (omega arith, omega arith)
 
   leaf_same : (b : List ℕ) (w : Weights) (n c : ℕ) (r : Read) (o : Meant.Read Code) → Two o → rest_at b r ≡ rest_of o
-      → sized_at b (leaf_down top w (capped top n) (capped top c) r) ≡ sizedBy w n c o
+      → sized_at b (leaf_down top w (capped top n) (capped top c) r) ≡ sized_by w n c o
   leaf_same b w n c (Read.End e) o h y =
       let d = done_of o (drop e b) (sym y) in
       let two : ((j : ℕ) → amount own 2 codes j d.0 ≡ 2) × ((j : ℕ) → amount (λ a. 1) 0 codes j d.0 ≡ 0) = rw d.1 at h in
@@ -241,24 +241,24 @@ module _ (t : Tables) (width : ℕ) (index : List ℕ) (f : Translation) (top : 
     abbrev place : ℕ
     place = get_or index (production_key k p) 0
 
-    own-weight : weighing (place + 3) v 0 ≡ capped top (weighted v (λ j. own (clauses_of f k p j)))
+    own_weight : weighing (place + 3) v 0 ≡ capped top (weighted v (λ j. own (clauses_of f k p j)))
     unfolding weigh_at
-    own-weight =
+    own_weight =
         rw (lt-ltb 0 width some-width)
         (ap (capped top) (alike v k s (λ j. times_at t (place + 3) (256 * j + 0)) (λ j. own (clauses_of f k p j)) (λ j u e. w.owns k p j u ks hk hp there e)))
 
     -- What is used by a number that the argument's kind lacks.
-    none-used : (i m : ℕ) → ((u : ℕ) → kind_at (uses_of f k p) (1 + i) m ≡ some u → ⊥) → (j : ℕ) → uses (1 + i) m (clauses_of f k p j) ≡ 0
+    none_used : (i m : ℕ) → ((u : ℕ) → kind_at (uses_of f k p) (1 + i) m ≡ some u → ⊥) → (j : ℕ) → uses (1 + i) m (clauses_of f k p j) ≡ 0
     unfolding uses
-    none-used i m off j =
+    none_used i m off j =
         clause_cases f k p j (λ (a : Code). uses (1 + i) m a ≡ 0) refl (λ a d. unused f.target (uses_of f k p) (1 + i) m off d)
 
     nothing : (x : ℕ → ℕ) → ((j : ℕ) → x j ≡ 0) → capped top (weighted v x) ≡ 0
     nothing x h = let z = weighted_zero v x (λ j. of_none (v j) (h j)) in omega arith
 
-    use-weight : (i m : ℕ) → i < length ks → weighing (place + 4 + i) v m ≡ capped top (weighted v (λ j. uses (1 + i) m (clauses_of f k p j)))
+    use_weight : (i m : ℕ) → i < length ks → weighing (place + 4 + i) v m ≡ capped top (weighted v (λ j. uses (1 + i) m (clauses_of f k p j)))
     unfolding weigh_at
-    use-weight i m h =
+    use_weight i m h =
         by_test (ltb m width)
         (λ e.
         let l = ltb-true m width e in
@@ -267,17 +267,17 @@ module _ (t : Tables) (width : ℕ) (index : List ℕ) (f : Translation) (top : 
         (λ e.
         let l = ltb-false m width e in
         rw e (sym (nothing (λ j. uses (1 + i) m (clauses_of f k p j))
-        (none-used i m (λ u d. let o = use_of_lem f k p ks there (1 + i) m u d in let y = w.narrow o.2.0 m u o.2.1 in omega arith)))))
+        (none_used i m (λ u d. let o = use_of_lem f k p ks there (1 + i) m u d in let y = w.narrow o.2.0 m u o.2.1 in omega arith)))))
 
     -- The weights of an operand are for the numbers of its kind.
-    use-supported : (i c : ℕ) → get_elem? ks i ≡ some c → Supported f top (weighing (place + 4 + i) v) c
-    use-supported i c e m lacks =
-        use-weight i m (get_inside ks i c e)
+    use_supported : (i c : ℕ) → get_elem? ks i ≡ some c → Supported f top (weighing (place + 4 + i) v) c
+    use_supported i c e m lacks =
+        use_weight i m (get_inside ks i c e)
         ∙ nothing (λ j. uses (1 + i) m (clauses_of f k p j))
-        (none-used i m (λ u d. none_some (sym lacks ∙ (sym (kind_use (mapping_of f.body) ks i m c e) ∙ at-use i m u d))))
+        (none_used i m (λ u d. none_some (sym lacks ∙ (sym (kind_use (mapping_of f.body) ks i m c e) ∙ at_use i m u d))))
       where
-        at-use : (i m u : ℕ) → kind_at (uses_of f k p) (1 + i) m ≡ some u → kind_at (map (mapping_of f.body) ks) (suc i) m ≡ some u
-        at-use i m u d =
+        at_use : (i m u : ℕ) → kind_at (uses_of f k p) (1 + i) m ≡ some u → kind_at (map (mapping_of f.body) ks) (suc i) m ≡ some u
+        at_use i m u d =
             let z : 1 + i ≡ suc i = omega arith in
             subst (λ (r : Uses). kind_at r (suc i) m ≡ some u) (uses_are f k p ks there) (subst (λ (x : ℕ). kind_at (uses_of f k p) x m ≡ some u) z d)
 
@@ -286,20 +286,20 @@ module _ (s index : List ℕ) (t : Tables) (width : ℕ) (b : List ℕ) (f : Tra
     (some-width : 0 < width) (narrow : width ≤ 256) (bytes : (i : ℕ) → get_or b i 0 < 256) (top : ℕ)
     (m : Weights → ℕ → ℕ → ℕ → ℕ → Measured) (g : ℕ → List ℕ → Meant.Read Code)
     (below : (v : Weights) (k at n c : ℕ) → k < 32 → Supported f top v k
-    → sized_at b (m v k at (capped top n) (capped top c)) ≡ sizedBy f top v n c (g k (drop at b))) where
+    → sized_at b (m v k at (capped top n) (capped top c)) ≡ sized_by f top v n c (g k (drop at b))) where
   abbrev by : Weighing
   by = weigh_at t top width
 
   -- What operands come to, with weights u, on top of n and c.
-  abbrev sizedAll : (ℕ → ℕ → ℕ) → ℕ → ℕ → Meant.Read Codes → Sized
-  sizedAll u n c (Meant.done x r) =
+  abbrev sized_all : (ℕ → ℕ → ℕ) → ℕ → ℕ → Meant.Read Codes → Sized
+  sized_all u n c (Meant.done x r) =
       sized r (capped top (n + amount_all own 2 (clauses_of f) u x)) (capped top (c + amount_all (λ a. 1) 0 (clauses_of f) u x))
-  sizedAll u n c Meant.deep = deep
-  sizedAll u n c Meant.broken = broken
+  sized_all u n c Meant.deep = deep
+  sized_all u n c Meant.broken = broken
 
   all_made : (u : ℕ → ℕ → ℕ) (n c : ℕ) (a : Code) (o : Meant.Read Codes)
-      → sizedAll u n c (and_then o λ x r. Meant.done (cons a x) r)
-      ≡ sizedAll (λ i by. u (suc i) by) (n + weighted (u 0) (λ j. amount own 2 (clauses_of f) j a)) (c + weighted (u 0) (λ j. amount (λ a. 1) 0 (clauses_of f) j a)) o
+      → sized_all u n c (and_then o λ x r. Meant.done (cons a x) r)
+      ≡ sized_all (λ i by. u (suc i) by) (n + weighted (u 0) (λ j. amount own 2 (clauses_of f) j a)) (c + weighted (u 0) (λ j. amount (λ a. 1) 0 (clauses_of f) j a)) o
   unfolding amount_all
   all_made u n c a (Meant.done x r) =
       let p : n + (weighted (u 0) (λ j. amount own 2 (clauses_of f) j a) + amount_all own 2 (clauses_of f) (λ i by. u (suc i) by) x)
@@ -311,8 +311,8 @@ module _ (s index : List ℕ) (t : Tables) (width : ℕ) (b : List ℕ) (f : Tra
   all_made u n c a Meant.broken = refl
 
   meant_next : (u : ℕ → ℕ → ℕ) (n c k : ℕ) (ks r v : List ℕ) (a : Code) → g k r ≡ Meant.done a v
-      → sizedAll u n c (read_all g (k ∷ ks) r)
-      ≡ sizedAll (λ i by. u (suc i) by) (n + weighted (u 0) (λ j. amount own 2 (clauses_of f) j a)) (c + weighted (u 0) (λ j. amount (λ a. 1) 0 (clauses_of f) j a)) (read_all g ks v)
+      → sized_all u n c (read_all g (k ∷ ks) r)
+      ≡ sized_all (λ i by. u (suc i) by) (n + weighted (u 0) (λ j. amount own 2 (clauses_of f) j a)) (c + weighted (u 0) (λ j. amount (λ a. 1) 0 (clauses_of f) j a)) (read_all g ks v)
   unfolding read_all
   meant_next u n c k ks r v a y = rw y (all_made u n c a (read_all g ks v))
 
@@ -322,9 +322,9 @@ module _ (s index : List ℕ) (t : Tables) (width : ℕ) (b : List ℕ) (f : Tra
   code_next v i q at n c x l d y = cc
 
   next : (v : Weights) (u : ℕ → ℕ → ℕ) (r : Measured) (i q : ℕ) (ks : List ℕ) (at n c : ℕ) → u 0 ≡ by q v
-      → m (by q v) (get_or s q 0) at (capped top n) (capped top c) ≡ r → sized_at b r ≡ sizedBy f top (by q v) n c (g (get_or s q 0) (drop at b))
-      → ((e l d : ℕ) → sized_at b (down_from m s by i v (q + 1) e (capped top l) (capped top d)) ≡ sizedAll (λ i by. u (suc i) by) l d (read_all g ks (drop e b)))
-      → sized_at b (down_from m s by (suc i) v q at (capped top n) (capped top c)) ≡ sizedAll u n c (read_all g (get_or s q 0 ∷ ks) (drop at b))
+      → m (by q v) (get_or s q 0) at (capped top n) (capped top c) ≡ r → sized_at b r ≡ sized_by f top (by q v) n c (g (get_or s q 0) (drop at b))
+      → ((e l d : ℕ) → sized_at b (down_from m s by i v (q + 1) e (capped top l) (capped top d)) ≡ sized_all (λ i by. u (suc i) by) l d (read_all g ks (drop e b)))
+      → sized_at b (down_from m s by (suc i) v q at (capped top n) (capped top c)) ≡ sized_all u n c (read_all g (get_or s q 0 ∷ ks) (drop at b))
   unfolding down_from read_all
   next v u (End e l d) i q ks at n c eu y h ih =
       let o = by_done f top (by q v) n c (g (get_or s q 0) (drop at b)) (drop e b) l d (sym h) in
@@ -333,18 +333,18 @@ module _ (s index : List ℕ) (t : Tables) (width : ℕ) (b : List ℕ) (f : Tra
       ap (sized_at b) (code_next v i q at (capped top n) (capped top c) e l d y)
       ∙ ((λ a. sized_at b (down_from m s by i v (q + 1) e (o.2 a) (o.3 a)))
       ∙ (ih e x x'
-      ∙ (sym (λ a. sizedAll (λ i by. u (suc i) by) (n + weighted (eu a) (λ j. amount own 2 (clauses_of f) j o.0)) (c + weighted (eu a) (λ j. amount (λ a. 1) 0 (clauses_of f) j o.0)) (read_all g ks (drop e b)))
+      ∙ (sym (λ a. sized_all (λ i by. u (suc i) by) (n + weighted (eu a) (λ j. amount own 2 (clauses_of f) j o.0)) (c + weighted (eu a) (λ j. amount (λ a. 1) 0 (clauses_of f) j o.0)) (read_all g ks (drop e b)))
       ∙ sym (meant_next u n c (get_or s q 0) ks (drop at b) (drop e b) o.0 o.1))))
   next v u Deep i q ks at n c eu y h ih = cc (by_deep f top (by q v) n c (g (get_or s q 0) (drop at b)) (sym h))
   next v u Broken i q ks at n c eu y h ih = cc (by_broken f top (by q v) n c (g (get_or s q 0) (drop at b)) (sym h))
 
   operands_same : (v : Weights) (u : ℕ → ℕ → ℕ) (i q e at n c : ℕ) → e - q ≡ i → KindsIn s q e → ((j : ℕ) → u j ≡ by (q + j) v)
       → ((j : ℕ) → q + j < e → Supported f top (by (q + j) v) (get_or s (q + j) 0))
-      → sized_at b (down_from m s by i v q at (capped top n) (capped top c)) ≡ sizedAll u n c (read_all g (slice q e s) (drop at b))
+      → sized_at b (down_from m s by i v q at (capped top n) (capped top c)) ≡ sized_all u n c (read_all g (slice q e s) (drop at b))
   unfolding down_from read_all amount_all
   operands_same v u zero q e at n c y h eu su =
       (let d : n + 0 ≡ n = omega arith in let d' : c + 0 ≡ c = omega arith in sym (λ i. sized (drop at b) (capped top (d i)) (capped top (d' i))))
-      ∙ part_done (λ (ks : List ℕ). sizedAll u n c (read_all g ks (drop at b))) s q e _ refl (omega arith)
+      ∙ part_done (λ (ks : List ℕ). sized_all u n c (read_all g ks (drop at b))) s q e _ refl (omega arith)
   operands_same v u (suc i) q e at n c y h eu su =
       let j = h q (omega arith) (omega arith) in
       let k = h (e - 1) (omega arith) (omega arith) in
@@ -355,12 +355,12 @@ module _ (s index : List ℕ) (t : Tables) (width : ℕ) (b : List ℕ) (f : Tra
       (λ d l c'. operands_same v (λ i by. u (suc i) by) i (q + 1) e d l c' (omega arith) (λ x a c. h x (omega arith) c)
       (λ j. eu (suc j) ∙ ap (λ (x : ℕ). by x v) (let p : q + suc j ≡ q + 1 + j = omega arith in p))
       (λ j l. let p : q + suc j ≡ q + 1 + j = omega arith in rw p at (su (suc j) (omega arith))))
-      ∙ part_next (λ (ks : List ℕ). sizedAll u n c (read_all g ks (drop at b))) s q e _ refl (omega arith) (omega arith)
+      ∙ part_next (λ (ks : List ℕ). sized_all u n c (read_all g ks (drop at b))) s q e _ refl (omega arith) (omega arith)
 
   -- A production name and its operands.
   node_made : (v : Weights) (u : ℕ → ℕ → ℕ) (k p n c : ℕ) (ks : List ℕ) (o : Meant.Read Codes) → Many (length ks) o
       → ((i : ℕ) → i < length ks → (x : ℕ) → u i x ≡ capped top (weighted v (λ j. uses (suc i) x (clauses_of f k p j))))
-      → sizedAll u (n + weighted v (λ j. own (clauses_of f k p j))) (c + weighted v (λ j. 1)) o ≡ sizedBy f top v n c (and_then o λ t r. Meant.done (node k p t) r)
+      → sized_all u (n + weighted v (λ j. own (clauses_of f k p j))) (c + weighted v (λ j. 1)) o ≡ sized_by f top v n c (and_then o λ t r. Meant.done (node k p t) r)
   node_made v u k p n c ks (Meant.done x r) full eu =
       let near : (i : ℕ) → i < many x → (y : ℕ) → capped top (u i y) ≡ capped top (weighted v (λ j. uses (suc i) y (clauses_of f k p j))) =
       λ i l y. capped_twice top (u i y) (weighted v (λ j. uses (suc i) y (clauses_of f k p j))) (eu i (omega arith) y) in
@@ -378,7 +378,7 @@ module _ (s index : List ℕ) (t : Tables) (width : ℕ) (b : List ℕ) (f : Tra
 
   name_found : (v : Weights) (place k p at n c : ℕ) → place ≡ get_or index (production_key k p) 0 → k < 32 → p < 256 → Supported f top v k
       → arguments_of f.source k p ≡ arguments_before s place
-      → sized_at b (weigh_down m s by top v (capped top n) (capped top c) (operands_at s place at)) ≡ sizedBy f top v n c (read_operands g k p (arguments_before s place) (drop at b))
+      → sized_at b (weigh_down m s by top v (capped top n) (capped top c) (operands_at s place at)) ≡ sized_by f top v n c (read_operands g k p (arguments_before s place) (drop at b))
   unfolding operands_at read_operands field_end
   name_found v zero k p at n c e h j sv there = cc (eq-eqb 0 0 refl)
   name_found v (suc q) k p at n c e h j sv there =
@@ -394,7 +394,7 @@ module _ (s index : List ℕ) (t : Tables) (width : ℕ) (b : List ℕ) (f : Tra
       ∙ (operands_same v (λ i. by (q + 5 + i) v) _ (q + 5) (q + 3 + pair_at s (q + 1)) at (n + weighted v (λ j. own (clauses_of f k p j))) (c + weighted v (λ j. 1)) refl
       (λ x a c. kin x (omega arith) (omega arith)) (λ j. refl) (λ i l. operand v q k p e h j sv there i l (λ x a c. kin x (omega arith) (omega arith)))
       ∙ node_made v (λ i. by (q + 5 + i) v) k p n c ks (read_all g ks (drop at b)) (read_many g ks (drop at b))
-      (λ i l x. used-by v q k p e h j sv there i l x)))
+      (λ i l x. used_by v q k p e h j sv there i l x)))
     where
       sums : (v : Weights) (q k p at n c : ℕ) → suc q ≡ get_or index (production_key k p) 0 → k < 32 → p < 256 → Supported f top v k
           → arguments_of f.source k p ≡ some (slice (q + 5) (q + 3 + pair_at s (q + 1)) s)
@@ -402,18 +402,18 @@ module _ (s index : List ℕ) (t : Tables) (width : ℕ) (b : List ℕ) (f : Tra
           ≡ sized_at b (down_from m s by (q + 3 + pair_at s (q + 1) - (q + 5)) v (q + 5) at (capped top (n + weighted v (λ j. own (clauses_of f k p j)))) (capped top (c + weighted v (λ j. 1))))
       sums v q k p at n c e h j sv there =
           let o : by (suc q + 3) v 0 ≡ capped top (weighted v (λ j. own (clauses_of f k p j))) =
-          rw e (own-weight t width index f top w some-width narrow k p _ h j there v sv) in
+          rw e (own_weight t width index f top w some-width narrow k p _ h j there v sv) in
           let a : capped top (capped top n + by (suc q + 3) v 0) ≡ capped top (n + weighted v (λ j. own (clauses_of f k p j))) = capped_part top n _ _ o in
           let d : capped top (capped top c + sum_of top v) ≡ capped top (c + weighted v (λ j. 1)) = capped_part top c _ _ (sum_is top v) in
           λ i. sized_at b (down_from m s by (q + 3 + pair_at s (q + 1) - (q + 5)) v (q + 5) at (a i) (d i))
 
-      used-by : (v : Weights) (q k p : ℕ) → suc q ≡ get_or index (production_key k p) 0 → k < 32 → p < 256 → Supported f top v k
+      used_by : (v : Weights) (q k p : ℕ) → suc q ≡ get_or index (production_key k p) 0 → k < 32 → p < 256 → Supported f top v k
           → arguments_of f.source k p ≡ some (slice (q + 5) (q + 3 + pair_at s (q + 1)) s) → (i : ℕ) → i < length (slice (q + 5) (q + 3 + pair_at s (q + 1)) s) → (x : ℕ)
           → by (q + 5 + i) v x ≡ capped top (weighted v (λ j. uses (suc i) x (clauses_of f k p j)))
-      used-by v q k p e h j sv there i l x =
+      used_by v q k p e h j sv there i l x =
           let from : q + 5 + i ≡ suc q + 4 + i = omega arith in
           let one : suc i ≡ 1 + i = omega arith in
-          rw (from, one, e) (use-weight t width index f top w some-width narrow k p _ h j there v sv i x l)
+          rw (from, one, e) (use_weight t width index f top w some-width narrow k p _ h j there v sv i x l)
 
       operand : (v : Weights) (q k p : ℕ) → suc q ≡ get_or index (production_key k p) 0 → k < 32 → p < 256 → Supported f top v k
           → arguments_of f.source k p ≡ some (slice (q + 5) (q + 3 + pair_at s (q + 1)) s) → (i : ℕ) → q + 5 + i < q + 3 + pair_at s (q + 1)
@@ -422,11 +422,11 @@ module _ (s index : List ℕ) (t : Tables) (width : ℕ) (b : List ℕ) (f : Tra
           let from : q + 5 + i ≡ suc q + 4 + i = omega arith in
           let last = kin (q + 3 + pair_at s (q + 1) - 1) (omega arith) (omega arith) in
           let one = part_get s (q + 5) (q + 3 + pair_at s (q + 1)) i (omega (arith, last.0)) l in
-          let r = use-supported t width index f top w some-width narrow k p _ h j there v sv i (get_or s (q + 5 + i) 0) one in
+          let r = use_supported t width index f top w some-width narrow k p _ h j there v sv i (get_or s (q + 5 + i) 0) one in
           λ x y. (let a : by (q + 5 + i) v x ≡ by (get_or index (production_key k p) 0 + 4 + i) v x = ap (λ (d : ℕ). by d v x) (from ∙ ap (λ (d : ℕ). d + 4 + i) e) in a) ∙ r x y
 
   name_same : (v : Weights) (k at n c : ℕ) → k < 32 → Supported f top v k
-      → sized_at b (weigh_down m s by top v (capped top n) (capped top c) (name_at s index k b at)) ≡ sizedBy f top v n c (read_node g f.source k (drop at b))
+      → sized_at b (weigh_down m s by top v (capped top n) (capped top c) (name_at s index k b at)) ≡ sized_by f top v n c (read_node g f.source k (drop at b))
   unfolding name_at read_node
   name_same v k at n c h sv =
       by_test (leb (length b) at)
@@ -439,7 +439,7 @@ module _ (s index : List ℕ) (t : Tables) (width : ℕ) (b : List ℕ) (f : Tra
 
   -- One level of a tree.
   token_same : (v : Weights) (p k at n c : ℕ) → suc p ≡ get_or index k 0 → k < 32
-      → sized_at b (leaf_down top v (capped top n) (capped top c) (token_at s (suc p) b at)) ≡ sizedBy f top v n c (read_token (range_before s (suc p)) (drop at b))
+      → sized_at b (leaf_down top v (capped top n) (capped top c) (token_at s (suc p) b at)) ≡ sized_by f top v n c (read_token (range_before s (suc p)) (drop at b))
   unfolding read_at Meant.read_by read_level node_at read_tree_level
   token_same v p k at n c e h =
       let pos : suc p ≡ 0 → ⊥ = λ v. omega arith in
@@ -450,7 +450,7 @@ module _ (s index : List ℕ) (t : Tables) (width : ℕ) (b : List ℕ) (f : Tra
       leaf_same f top b v n c (token_at s (suc p) b at) (read_token (range_before s (suc p)) (drop at b)) (token_two f top _ (drop at b)) q
 
   level_same : (v : Weights) (place k at n c : ℕ) → place ≡ get_or index k 0 → k < 32 → Supported f top v k
-      → sized_at b (weigh_down m s by top v (capped top n) (capped top c) (node_at Tree s index [] k b at)) ≡ sizedBy f top v n c (read_tree_level g f.source k (drop at b))
+      → sized_at b (weigh_down m s by top v (capped top n) (capped top c) (node_at Tree s index [] k b at)) ≡ sized_by f top v n c (read_tree_level g f.source k (drop at b))
   unfolding node_at read_tree_level
   level_same v zero k at n c e h sv = cc (Read-laws.tree_name s index k b at refl e refl refl, name_same v k at n c h sv, z.range k h)
   level_same v (suc p) k at n c e h sv =
@@ -460,7 +460,7 @@ module _ (s index : List ℕ) (t : Tables) (width : ℕ) (b : List ℕ) (f : Tra
 -- Measuring by position is measuring what is read.
 measure_same : (s index : List ℕ) (t : Tables) (width : ℕ) (b : List ℕ) (f : Translation) → Indexed index s f.source → Counted t width index f
     → 0 < width → width ≤ 256 → ((i : ℕ) → get_or b i 0 < 256) → (top i : ℕ) (v : Weights) (k at n c : ℕ) → k < 32 → Supported f top v k
-    → sized_at b (down_at s index (weigh_at t top width) b top i v k at (capped top n) (capped top c)) ≡ sizedBy f top v n c (Meant.read Meant.tree f.source [] i k (drop at b))
+    → sized_at b (down_at s index (weigh_at t top width) b top i v k at (capped top n) (capped top c)) ≡ sized_by f top v n c (Meant.read Meant.tree f.source [] i k (drop at b))
 unfolding down_at Meant.read_by read_level read_at
 measure_same s index t width b f z w some-width narrow bytes top zero v k at n c h sv =
     leaf_same f top b v n c (past_at Tree s index k b at) (past_levels current Meant.tree f.source k (drop at b)) (past_two f top k (drop at b))
@@ -477,14 +477,14 @@ once_is j x h =
 
 measured : (f : Translation) (top j : ℕ) → j < numbers
     → ((k p i : ℕ) (ks : List ℕ) → arguments_of f.source k p ≡ some ks → Bounded (length ks) (clauses_of f k p i))
-    → (i k : ℕ) (s : List ℕ) (o : Meant.Read Code) → Meant.read Meant.tree f.source [] i k s ≡ o → sizedBy f top (once_by j) 0 0 o ≡ sized_of top f j o
+    → (i k : ℕ) (s : List ℕ) (o : Meant.Read Code) → Meant.read Meant.tree f.source [] i k s ≡ o → sized_by f top (once_by j) 0 0 o ≡ sized_of top f j o
 unfolding transform
 measured f top j h bounds i k s (Meant.done t r) e =
     let d = (read_done Meant.tree f.source [] i k s t r e).0 in
     let a = once_is j (λ i. amount own 2 (clauses_of f) i t) h in
     let b = once_is j (λ i. amount (λ c. 1) 0 (clauses_of f) i t) h in
-    let x = run-amount f.source (clauses_of f) bounds j d in
-    let y = cost-amount f.source (clauses_of f) bounds j d in
+    let x = run_amount f.source (clauses_of f) bounds j d in
+    let y = cost_amount f.source (clauses_of f) bounds j d in
     let left : capped top (0 + weighted (once_by j) (λ i. amount own 2 (clauses_of f) i t)) ≡ capped top (size (run (clauses_of f) j t)) = omega arith in
     let right : capped top (0 + weighted (once_by j) (λ i. amount (λ c. 1) 0 (clauses_of f) i t)) ≡ capped top (cost (clauses_of f) j t) = omega arith in
     λ z. sized r (left z) (right z)
@@ -511,19 +511,19 @@ same_as s index counts entries b f z {width} w bytes top i k at j v h some-width
 
 module _ (s index : List ℕ) (v : Weighing) (b : List ℕ) (top : ℕ) (w : Weights) (k at sum cost : ℕ) {n : ℕ} where
   module _ (some-levels : 0 < n) (x : Step) (goes : Goes s index v b top w k at sum cost x) where
-    down-goes : goes_on s index v b top (n - 1) w x ≡ down_at s index v b top n w k at sum cost
-    down-goes =
+    down_goes : goes_on s index v b top (n - 1) w x ≡ down_at s index v b top n w k at sum cost
+    down_goes =
         let z : suc (n - 1) ≡ n = omega arith in
         goes (n - 1) ∙ ap (λ (m : ℕ). down_at s index v b top m w k at sum cost) z
 
-    pub down-broken : x ≡ Step.Broken → Broken ≡ down_at s index v b top n w k at sum cost
-    down-broken y = (let z : Broken ≡ goes_on s index v b top (n - 1) w x = rw y in z) ∙ down-goes
+    pub down_broken : x ≡ Step.Broken → Broken ≡ down_at s index v b top n w k at sum cost
+    down_broken y = (let z : Broken ≡ goes_on s index v b top (n - 1) w x = rw y in z) ∙ down_goes
 
-    pub down-rows : {q e to own one : ℕ} {r : Measured} → x ≡ Step.Row q e to own one → (u : Weights) → u ≡ w
+    pub down_rows : {q e to own one : ℕ} {r : Measured} → x ≡ Step.Row q e to own one → (u : Weights) → u ≡ w
         → r ≡ down_row s index v b top (n - 1) u q e to own one → r ≡ down_at s index v b top n w k at sum cost
-    down-rows {q} {e} {to} {own} {one} y u same h =
+    down_rows {q} {e} {to} {own} {one} y u same h =
         h ∙ (ap (λ (u : Weights). down_row s index v b top (n - 1) u q e to own one) same
-        ∙ ((let z : down_row s index v b top (n - 1) w q e to own one ≡ goes_on s index v b top (n - 1) w x = rw y in z) ∙ down-goes))
+        ∙ ((let z : down_row s index v b top (n - 1) w q e to own one ≡ goes_on s index v b top (n - 1) w x = rw y in z) ∙ down_goes))
 
 -- What was read, by what was measured of it.
 module _ (f : Translation) (top j : ℕ) where

@@ -31,7 +31,7 @@ use Rattle.format_translation.proofs.Fitting.{formed_fits}
 use Rattle.run_measure.specs.Inner.Counting.{Tables, times_at, count_all, width_of}
 use Rattle.run_measure.specs.Inner.Measuring.{Counted}
 use Rattle.run_measure.proofs.Entries.{linked_none}
-use Rattle.run_measure.proofs.Clauses.{all-times}
+use Rattle.run_measure.proofs.Clauses.{all_times}
 use Rattle.run_measure.proofs.Given.{Finds, finds_apart, places_along, field_up, items_clauses, number_narrow}
 
 -- An index that is built over zeros finds, for each key, the place of a field of that key.
@@ -93,7 +93,7 @@ module _ (source body after counts entries : List ℕ) (width : ℕ) (source_byt
       let w = items_clauses body f held items-rise fits (is_rising (order_at 0x22 body) (places body) (rising_is body f.body held ∙ (rises_parts f rises).2)) in
       let x = finds_apart after source (rw built (built_finds source index stands.long stands.zero)) in
       let low : (k j u : ℕ) → mapping_of f.body k j ≡ some u → j < width = λ k j u maps. let y = number_narrow body f held items-rise fits k j u maps in omega arith in
-      let all = all-times source after body f z x w bytes brief (length entries) (⊎_elim (λ a. inl a) (λ a. inr (λ k j u maps. let y = low k j u maps in omega arith)) enough)
+      let all = all_times source after body f z x w bytes brief (length entries) (⊎_elim (λ a. inl a) (λ a. inr (λ k j u maps. let y = low k j u maps in omega arith)) enough)
       (counts, entries) (record { long = room; entries = refl; fresh = λ q h. let y = clean q in omega arith }) (clear_tables counts entries clear clean)
       (places_along body) (field_up body) in
       rw counted (record {

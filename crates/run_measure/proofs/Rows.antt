@@ -17,7 +17,7 @@ use Rattle.run_measure.specs.declared.measure.Step.{Step}
 use Rattle.run_measure.specs.declared.measure.Step.TheVariants as Step
 use Rattle.run_measure.specs.Inner.Weighing.{Weights, window, KeptBelow}
 use Rattle.run_measure.specs.Inner.Descent.{Weighing, down_row, out_of_levels, unwind, Waiting, StepIn}
-use Rattle.run_measure.proofs.Laws.{Goes, step_row, rows_start, rows-done, rows_back, rows-deep, rows-broken, rows_on, rows-down}
+use Rattle.run_measure.proofs.Laws.{Goes, step_row, rows_start, rows_done, rows_back, rows_deep, rows_broken, rows_on, rows_down}
 use Rattle.run_measure.specs.Inner.Entering.{NoneFrom, OnlyBy, Wiped}
 use Rattle.run_measure.proofs.Windows.{kept_then, window_kept, windows_below, window_room}
 
@@ -71,12 +71,12 @@ module _ (s index : List ℕ) (v : Weighing) (b : List ℕ) (top levels width : 
   module _ {answer : Measured} {firsts lasts weights : List ℕ} {d base q e to sum cost : ℕ}
       (o : Open s index v b top levels width answer firsts lasts weights d base q e to sum cost) where
     pub open_done : e ≤ q → d ≡ 0 → End to sum cost ≡ answer
-    open_done h y = sym (rows-done s index v b top levels firsts lasts (rows_of width weights) d q e to sum cost h y) ∙ o.comes
+    open_done h y = sym (rows_done s index v b top levels firsts lasts (rows_of width weights) d q e to sum cost h y) ∙ o.comes
 
     -- The rows above have stayed.
-    pub open-back : {then : List ℕ} → KeptBelow weights then base → e ≤ q → (d ≡ 0 → ⊥)
+    pub open_back : {then : List ℕ} → KeptBelow weights then base → e ≤ q → (d ≡ 0 → ⊥)
         → Open s index v b top levels width answer firsts lasts then (d - 1) (base - width) (get_or firsts (d - 1) 0) (get_or lasts (d - 1) 0) to sum cost
-    open-back {then} kept h y =
+    open_back {then} kept h y =
         let below = windows_below width d y o.based in
         record {
           inside = o.inside;
@@ -94,19 +94,19 @@ module _ (s index : List ℕ) (v : Weighing) (b : List ℕ) (top levels width : 
         }
 
     -- The window before the open row's, which is taken when it ends.
-    pub open-base : (d ≡ 0 → ⊥) → width ≤ base
-    open-base y = (windows_below width d y o.based).0
+    pub open_base : (d ≡ 0 → ⊥) → width ≤ base
+    open_base y = (windows_below width d y o.based).0
 
     -- There is room for the weights of an operand, and of what belongs to it.
-    pub open-room : levels < 64 → base + width + 2 * width ≤ length weights
-    open-room fits = window_room width weights d o.based o.long (omega (arith, o.shallow))
+    pub open_room : levels < 64 → base + width + 2 * width ≤ length weights
+    open_room fits = window_room width weights d o.based o.long (omega (arith, o.shallow))
 
     module _ (more : q < e) where
       pub open_in : length s ≤ 1024 → (q < length s) × (get_or s q 0 < 32) × (q < 1024) × (e ≤ 1024)
       open_in short = row_in s q e short o.kinds more
 
-      pub open-deep : out_of_levels index (get_or s q 0) (levels - d) ≡ true → Deep ≡ answer
-      open-deep y = sym (rows-deep s index v b top levels firsts lasts (rows_of width weights) d q e to sum cost more y) ∙ o.comes
+      pub open_deep : out_of_levels index (get_or s q 0) (levels - d) ≡ true → Deep ≡ answer
+      open_deep y = sym (rows_deep s index v b top levels firsts lasts (rows_of width weights) d q e to sum cost more y) ∙ o.comes
 
       -- The weights of the operand were worked out, and then those of what belongs to it.
       module _ (below : out_of_levels index (get_or s q 0) (levels - d) ≡ false) (mid : List ℕ)
@@ -115,9 +115,9 @@ module _ (s index : List ℕ) (v : Weighing) (b : List ℕ) (top levels width : 
         part_is : window width mid (base + width) ≡ v q (rows_of width weights d)
         part_is = mid-is ∙ ap (λ (i : ℕ). v q (window width weights i)) o.based
 
-        pub open-broken : x ≡ Step.Broken → Broken ≡ answer
-        open-broken y =
-            sym (rows-broken s index v b top levels firsts lasts (rows_of width weights) d q e to sum cost more (window width mid (base + width)) below part_is x goes y) ∙ o.comes
+        pub open_broken : x ≡ Step.Broken → Broken ≡ answer
+        open_broken y =
+            sym (rows_broken s index v b top levels firsts lasts (rows_of width weights) d q e to sum cost more (window width mid (base + width)) below part_is x goes y) ∙ o.comes
 
         module _ {first last t n u : ℕ} (ex : x ≡ Step.Row first last t n u) (within : StepIn s (length b) top to x) (then : List ℕ)
             (kept : KeptBelow weights then (base + width)) where
@@ -127,8 +127,8 @@ module _ (s index : List ℕ) (v : Weighing) (b : List ℕ) (top levels width : 
           stays : (j : ℕ) → j ≤ d → rows_of width then j ≡ rows_of width weights j
           stays j h = window_kept width weights then base d j o.based h kept
 
-          pub open-on : last ≤ first → Open s index v b top levels width answer firsts lasts then d base (q + 1) e t n u
-          open-on h =
+          pub open_on : last ≤ first → Open s index v b top levels width answer firsts lasts then d base (q + 1) e t n u
+          open_on h =
               record {
                 inside = found.1;
                 under = found.2;
@@ -158,8 +158,8 @@ module _ (s index : List ℕ) (v : Weighing) (b : List ℕ) (top levels width : 
                 let y : j ≡ d → ⊥ = eqb-false j d t in
                 rw (get_or-set_other firsts d j (q + 1) 0 y, get_or-set_other lasts d j e 0 y) (o.waiting j (omega arith)))
 
-            pub open-down : Open s index v b top levels width answer (set firsts d (q + 1)) (set lasts d e) then (d + 1) (base + width) first last t n u
-            open-down =
+            pub open_down : Open s index v b top levels width answer (set firsts d (q + 1)) (set lasts d e) then (d + 1) (base + width) first last t n u
+            open_down =
                 let hf : d < length firsts = omega (arith, o.first_long) in
                 let hl : d < length lasts = omega (arith, o.last_long) in
                 let next : base + width ≡ (d + 1) * width = omega (arith, o.based) in
@@ -174,7 +174,7 @@ module _ (s index : List ℕ) (v : Weighing) (b : List ℕ) (top levels width : 
                   last_long = length-set lasts d e ∙ o.last_long;
                   long = omega (arith, o.long, kept.long);
                   based = next;
-                  comes = sym (rows-down s index v b top levels firsts lasts (rows_of width weights) d q e to sum cost more (window width mid (base + width)) below part_is x goes ex (rows_of width then) stays refl hf hl
+                  comes = sym (rows_down s index v b top levels firsts lasts (rows_of width weights) d q e to sum cost more (window width mid (base + width)) below part_is x goes ex (rows_of width then) stays refl hf hl
                       (ap (window width then) (sym next) ∙ on)) ∙ o.comes;
                 }
 
@@ -190,8 +190,8 @@ module _ (entries : List ℕ) (width : ℕ) (firsts weights : List ℕ) where
 
   module _ {d base : ℕ} (o : Tidy entries width firsts weights d base) (eb : base ≡ d * width) where
     -- The deepest row's window.
-    pub tidy-deepest : (d ≡ 0 → ⊥) → OnlyBy entries (get_or entries (get_or firsts (d - 1) 0 - 1) 0) weights base width
-    tidy-deepest some =
+    pub tidy_deepest : (d ≡ 0 → ⊥) → OnlyBy entries (get_or entries (get_or firsts (d - 1) 0 - 1) 0) weights base width
+    tidy_deepest some =
         let below = windows_below width d some eb in
         let z : (d - 1) * width + width ≡ base = omega arith in
         rw z at (o.only (d - 1) (omega arith))
@@ -202,8 +202,8 @@ module _ (entries : List ℕ) (width : ℕ) (firsts weights : List ℕ) where
         let y : (j + 1) * width ≤ c * width = mul-le-mul (let z : j + 1 ≤ c = omega arith in z) (let z : width ≤ width = omega arith in z) in
         kept.same (j * width + width + m) (omega arith) ∙ o.only j (omega arith) m some more none
 
-    pub tidy-back : {then : List ℕ} → Wiped weights then base → (d ≡ 0 → ⊥) → Tidy entries width firsts then (d - 1) (base - width)
-    tidy-back {then} wiped some =
+    pub tidy_back : {then : List ℕ} → Wiped weights then base → (d ≡ 0 → ⊥) → Tidy entries width firsts then (d - 1) (base - width)
+    tidy_back {then} wiped some =
         let below = windows_below width d some eb in
         let z : base ≡ base - width + width = omega arith in
         record {
@@ -211,15 +211,15 @@ module _ (entries : List ℕ) (width : ℕ) (firsts weights : List ℕ) where
           only = only_kept {then = then} (d - 1) (base - width) (omega arith) (omega arith) (rw (← z) wiped.kept);
         }
 
-    pub tidy-on : {mid then : List ℕ} → KeptBelow weights mid (base + width) → Wiped mid then (base + width) → Tidy entries width firsts then d base
-    tidy-on {mid} {then} kept wiped = record {
+    pub tidy_on : {mid then : List ℕ} → KeptBelow weights mid (base + width) → Wiped mid then (base + width) → Tidy entries width firsts then d base
+    tidy_on {mid} {then} kept wiped = record {
       none = wiped.none;
       only = only_kept {then = then} d base (omega arith) (omega arith) (kept_then kept wiped.kept);
     }
 
-    pub tidy-down : {mid : List ℕ} (q : ℕ) → d < length firsts → KeptBelow weights mid (base + width) → NoneFrom mid (base + width + width)
+    pub tidy_down : {mid : List ℕ} (q : ℕ) → d < length firsts → KeptBelow weights mid (base + width) → NoneFrom mid (base + width + width)
         → OnlyBy entries (get_or entries q 0) mid (base + width) width → Tidy entries width (set firsts d (q + 1)) mid (d + 1) (base + width)
-    tidy-down {mid} q hf kept none only = record {
+    tidy_down {mid} q hf kept none only = record {
       none = none;
       only = λ j l. by_test (eqb j d)
           (λ t.

@@ -12,7 +12,7 @@ use borrow.Author.Tests.{eq-eqb, ne_eqb}
 use Rattle.format_fields.proofs.Truth.{none_some}
 use Rattle.format_language.specs.Language.{Language, arguments_of}
 use Rattle.tree_reader.specs.Code.{Code, node, token, argument, Codes, nil, cons}
-use Rattle.tree_reader.specs.Typing.{Typed, TypedAll, typed-node, typed-token, typed-argument, typed-nil, typed-cons}
+use Rattle.tree_reader.specs.Typing.{Typed, TypedAll, typed_node, typed_token, typed_argument, typed_nil, typed_cons}
 use Rattle.tree_reader.specs.Syntax.{write, write_all, tree}
 use Rattle.format_translation.specs.Running.{Replacing, substitute, substitute_all, from_one, Clauses, run, run_operand}
 use Rattle.run_measure.specs.Cost.{over_uses, over_all_uses, count_from_one, cost, cost_operand}
@@ -70,16 +70,16 @@ module _ (n : ℕ) (s : ℕ → ℕ → ℕ) where
   mutual
     unfolding over_uses count_from_one uses
 
-    pub uses-shares : (a : Code) → Bounded n a → over_uses (count_from_one s) a ≡ shares n (λ i j. uses (suc i) j a) s
-    uses-shares (node k p t) h = uses-sharesAll t h
-    uses-shares (token v) h = sym shares_zero
-    uses-shares (argument zero j) h = absurd (omega arith)
-    uses-shares (argument (suc i) j) h = sym (shares_one i j (omega arith) h.2)
+    pub uses_shares : (a : Code) → Bounded n a → over_uses (count_from_one s) a ≡ shares n (λ i j. uses (suc i) j a) s
+    uses_shares (node k p t) h = uses_shares_all t h
+    uses_shares (token v) h = sym shares_zero
+    uses_shares (argument zero j) h = absurd (omega arith)
+    uses_shares (argument (suc i) j) h = sym (shares_one i j (omega arith) h.2)
 
-    uses-sharesAll : (t : Codes) → BoundedAll n t → over_all_uses (count_from_one s) t ≡ shares n (λ i j. uses_all (suc i) j t) s
-    uses-sharesAll nil h = sym shares_zero
-    uses-sharesAll (cons a t) h =
-        (λ x. uses-shares a h.0 x + uses-sharesAll t h.1 x) ∙ sym (shares_add (λ i j. uses (suc i) j a) (λ i j. uses_all (suc i) j t))
+    uses_shares_all : (t : Codes) → BoundedAll n t → over_all_uses (count_from_one s) t ≡ shares n (λ i j. uses_all (suc i) j t) s
+    uses_shares_all nil h = sym shares_zero
+    uses_shares_all (cons a t) h =
+        (λ x. uses_shares a h.0 x + uses_shares_all t h.1 x) ∙ sym (shares_add (λ i j. uses (suc i) j a) (λ i j. uses_all (suc i) j t))
 
 -- The length of a code with each use replaced: its own bytes, and those of what replaces its uses.
 mutual
@@ -107,35 +107,35 @@ module _ (l : Language) (f : Clauses) (bounded : (k p j : ℕ) (ks : List ℕ) �
   mutual
     unfolding amount run write sum_to run_operand
 
-    pub run-amount : {a : Code} {k : ℕ} (j : ℕ) → Typed l [] a k → size (run f j a) ≡ amount own 2 f j a
-    run-amount j (typed-node {k = k} {p = p} {t = t} {ks = ks} e h) =
+    pub run_amount : {a : Code} {k : ℕ} (j : ℕ) → Typed l [] a k → size (run f j a) ≡ amount own 2 f j a
+    run_amount j (typed_node {k = k} {p = p} {t = t} {ks = ks} e h) =
         size_substitute (length ks) (λ i by. run_operand f t i by) (f k p j) (bounded k p j ks e)
-        ∙ ap (λ (x : ℕ). own (f k p j) + x) (uses-shares (length ks) _ (f k p j) (bounded k p j ks e)
-        ∙ run-amountAll (λ i by. uses (suc i) by (f k p j)) h)
-    run-amount j (typed-token e g) = refl
-    run-amount j (typed-argument {i = zero} e) = none_some e
-    run-amount j (typed-argument {i = suc i} e) = none_some e
+        ∙ ap (λ (x : ℕ). own (f k p j) + x) (uses_shares (length ks) _ (f k p j) (bounded k p j ks e)
+        ∙ run_amount_all (λ i by. uses (suc i) by (f k p j)) h)
+    run_amount j (typed_token e g) = refl
+    run_amount j (typed_argument {i = zero} e) = none_some e
+    run_amount j (typed_argument {i = suc i} e) = none_some e
 
-    run-amountAll : {t : Codes} {ks : List ℕ} (u : ℕ → ℕ → ℕ) → TypedAll l [] t ks
+    run_amount_all : {t : Codes} {ks : List ℕ} (u : ℕ → ℕ → ℕ) → TypedAll l [] t ks
         → shares (length ks) u (λ i by. size (run_operand f t i by)) ≡ amount_all own 2 f u t
-    run-amountAll u typed-nil = refl
-    run-amountAll u (typed-cons h hs) = λ x. weighted (λ by. u 0 by) (λ by. run-amount by h x) + run-amountAll (λ i by. u (suc i) by) hs x
+    run_amount_all u typed_nil = refl
+    run_amount_all u (typed_cons h hs) = λ x. weighted (λ by. u 0 by) (λ by. run_amount by h x) + run_amount_all (λ i by. u (suc i) by) hs x
 
   -- The cost of a run is what one for each clause comes to.
   mutual
     unfolding amount cost sum_to
 
-    pub cost-amount : {a : Code} {k : ℕ} (j : ℕ) → Typed l [] a k → cost f j a ≡ amount (λ c. 1) 0 f j a
-    cost-amount j (typed-node {k = k} {p = p} {t = t} {ks = ks} e h) =
-        ap (λ (x : ℕ). 1 + x) (uses-shares (length ks) _ (f k p j) (bounded k p j ks e)
-        ∙ cost-amountAll (λ i by. uses (suc i) by (f k p j)) h)
-    cost-amount j (typed-token e g) = refl
-    cost-amount j (typed-argument e) = refl
+    pub cost_amount : {a : Code} {k : ℕ} (j : ℕ) → Typed l [] a k → cost f j a ≡ amount (λ c. 1) 0 f j a
+    cost_amount j (typed_node {k = k} {p = p} {t = t} {ks = ks} e h) =
+        ap (λ (x : ℕ). 1 + x) (uses_shares (length ks) _ (f k p j) (bounded k p j ks e)
+        ∙ cost_amount_all (λ i by. uses (suc i) by (f k p j)) h)
+    cost_amount j (typed_token e g) = refl
+    cost_amount j (typed_argument e) = refl
 
-    cost-amountAll : {t : Codes} {ks : List ℕ} (u : ℕ → ℕ → ℕ) → TypedAll l [] t ks
+    cost_amount_all : {t : Codes} {ks : List ℕ} (u : ℕ → ℕ → ℕ) → TypedAll l [] t ks
         → shares (length ks) u (λ i by. cost_operand f t i by) ≡ amount_all (λ c. 1) 0 f u t
-    cost-amountAll u typed-nil = refl
-    cost-amountAll u (typed-cons h hs) = λ x. weighted (λ by. u 0 by) (λ by. cost-amount by h x) + cost-amountAll (λ i by. u (suc i) by) hs x
+    cost_amount_all u typed_nil = refl
+    cost_amount_all u (typed_cons h hs) = λ x. weighted (λ by. u 0 by) (λ by. cost_amount by h x) + cost_amount_all (λ i by. u (suc i) by) hs x
 
 -- From above: what operands come to is linear in the weights of their row.
 module _ (e : Code → ℕ) (z : ℕ) (f : Clauses) where

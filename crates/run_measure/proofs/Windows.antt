@@ -127,8 +127,8 @@ module _ (ws : List ℕ) (from width key n top before : ℕ) (narrow : width ≤
         let l = ltb-false m width t in
         rw (window_out width (set ws at c) (from + width) m l, window_out width ws (from + width) m l, ne_eqb (key % 256) m (λ e. omega arith)) (omega arith))
 
-    pub one-adds : Shared ws (set ws at c) from width key n top before after
-    one-adds = record {
+    pub one_adds : Shared ws (set ws at c) from width key n top before after
+    one_adds = record {
       kept = record { long = length-set ws at c; same = λ i l. get_or-set_other ws at i c 0 (λ e. omega arith) };
       behind = λ i l. get_or-set_other ws at i c 0 (λ e. omega arith);
       adds = adds;
@@ -247,11 +247,11 @@ module _ (entries : List ℕ) (head : ℕ) (old : List ℕ) (from width top sum 
   module _ (ws vs : List ℕ) {e key n next o total more : ℕ} (w : Entering entries head old ws from width top sum e total) (some : 1024 ≤ e) (narrow : width ≤ 256)
       (ek : key ≡ get_or entries (e + 1) 0) (small : key < 65536) (en : n ≡ get_or entries (e + 2) 0) (ex : next ≡ get_or entries e 0) (eo : o ≡ before e next)
       (s : (more ≤ top) × Shared ws vs from width key n top total more) where
-    same-window : window width ws from ≡ window width old from
-    same-window = window_same width old ws from w.kept.same
+    same_window : window width ws from ≡ window width old from
+    same_window = window_same width old ws from w.kept.same
 
-    pub enter-next : Entering entries head old vs from width top sum o more
-    enter-next = record {
+    pub enter_next : Entering entries head old vs from width top sum o more
+    enter_next = record {
       kept = kept_then w.kept s.1.kept;
       behind = λ i l. s.1.behind i l ∙ w.behind i l;
       under = λ m l. let z = s.1.adds m l in omega arith;
@@ -262,13 +262,13 @@ module _ (entries : List ℕ) (head : ℕ) (old : List ℕ) (from width top sum 
           let b = linked_turn entries (window width old from) e m some (omega arith) (rw (← ek) small) in
           let c = w.left m l in
           let d : cond (eqb (key % 256) m) (window width ws from (key / 256) * n) 0
-          ≡ cond (eqb (get_or entries (e + 1) 0 % 256) m) (window width old from (get_or entries (e + 1) 0 / 256) * get_or entries (e + 2) 0) 0 = rw (← ek, ← en, same-window) in
+          ≡ cond (eqb (get_or entries (e + 1) 0 % 256) m) (window width old from (get_or entries (e + 1) 0 / 256) * get_or entries (e + 2) 0) 0 = rw (← ek, ← en, same_window) in
           rw (eo, ex) (omega arith);
       sums = λ y. s.1.sums (w.sums y);
     }
 
-    pub enter-less : o < e
-    enter-less = let z = before_less e next some in omega arith
+    pub enter_less : o < e
+    enter_less = let z = before_less e next some in omega arith
 
 -- weigh
 module _ (counts entries : List ℕ) (q : ℕ) (ws one vs : List ℕ) (from width top : ℕ) (some : 0 < width) (narrow : width ≤ 256)
@@ -276,16 +276,16 @@ module _ (counts entries : List ℕ) (q : ℕ) (ws one vs : List ℕ) (from widt
   pub none_under : (m : ℕ) → m < width → get_or ws (from + width + m) 0 ≤ top
   none_under m l = let z = zeros m l in omega arith
 
-  module _ {c one-sum : ℕ} (ec : c ≡ get_or counts q 0) (shared : Shared ws one from width 0 c top 0 one-sum) where
-    pub one-under : (m : ℕ) → m < width → get_or one (from + width + m) 0 ≤ top
-    one-under m l = let z = shared.adds m l in omega arith
+  module _ {c one_sum : ℕ} (ec : c ≡ get_or counts q 0) (shared : Shared ws one from width 0 c top 0 one_sum) where
+    pub one_under : (m : ℕ) → m < width → get_or one (from + width + m) 0 ≤ top
+    one_under m l = let z = shared.adds m l in omega arith
 
-    module _ {sum : ℕ} (entered : Entered entries (get_or entries q 0) one vs from width top one-sum sum) where
+    module _ {sum : ℕ} (entered : Entered entries (get_or entries q 0) one vs from width top one_sum sum) where
       pub weigh_kept : KeptBelow ws vs (from + width)
       weigh_kept = kept_then shared.kept entered.kept
 
-      one-window : window width one from ≡ window width ws from
-      one-window = window_same width ws one from shared.kept.same
+      one_window : window width one from ≡ window width ws from
+      one_window = window_same width ws one from shared.kept.same
 
       inside : (m : ℕ) → m < width → get_or vs (from + width + m) 0 ≡ capped top (weighted (window width ws from) (λ j. times_at (counts, entries) q (256 * j + m)))
       unfolding times_at
@@ -294,7 +294,7 @@ module _ (counts entries : List ℕ) (q : ℕ) (ws one vs : List ℕ) (from widt
           let b = shared.adds m l in
           let o = zeros m l in
           let cw : weighted (window width one from) (λ j. linked (get_or entries q 0) entries (get_or entries q 0) (256 * j + m))
-          ≡ weighted (window width ws from) (λ j. linked (get_or entries q 0) entries (get_or entries q 0) (256 * j + m)) = rw one-window in
+          ≡ weighted (window width ws from) (λ j. linked (get_or entries q 0) entries (get_or entries q 0) (256 * j + m)) = rw one_window in
           let d = one_weight (window width ws from) 0 (get_or counts q 0) m (omega arith) (omega arith) in
           let g : cond (eqb (0 % 256) m) (window width ws from (0 / 256) * c) 0 ≡ cond (eqb (0 % 256) m) (window width ws from (0 / 256) * get_or counts q 0) 0 = rw ec in
           let h = weighted_add (window width ws from) (λ j. cond (eqb 0 (256 * j + m)) (get_or counts q 0) 0) (λ j. linked (get_or entries q 0) entries (get_or entries q 0) (256 * j + m)) in
@@ -310,11 +310,11 @@ module _ (counts entries : List ℕ) (q : ℕ) (ws one vs : List ℕ) (from widt
       pub weigh_is : window width vs (from + width) ≡ weigh_at (counts, entries) top width q (window width ws from)
       weigh_is = λ x m. point m x
 
-      pub weigh-sums : sum ≡ sum_of top (window width vs (from + width))
-      weigh-sums = entered.sums (shared.sums (sum_none top width ws (from + width) zeros))
+      pub weigh_sums : sum ≡ sum_of top (window width vs (from + width))
+      weigh_sums = entered.sums (shared.sums (sum_none top width ws (from + width) zeros))
 
-      pub weigh-none : NoneFrom ws (from + width) → NoneFrom vs (from + width + width)
-      weigh-none none i l = entered.behind i l ∙ (shared.behind i l ∙ none i (omega arith))
+      pub weigh_none : NoneFrom ws (from + width) → NoneFrom vs (from + width + width)
+      weigh_none none i l = entered.behind i l ∙ (shared.behind i l ∙ none i (omega arith))
 
 -- What position q counts nothing for has no weight.
 pub weighed_only : (counts entries : List ℕ) (q top width : ℕ) (w : Weights) (vs : List ℕ) (at : ℕ)
@@ -349,10 +349,10 @@ module _ (counts entries : List ℕ) (q : ℕ) (ws : List ℕ) (from top : ℕ) 
   unfolding off
   off_window = window_same 1 ws (set ws (from + 1) 0) from (λ i l. other i 0 l)
 
-  abbrev one-sum : ℕ
-  one-sum = sum_of top (window 1 one (from + 1))
+  abbrev one_sum : ℕ
+  one_sum = sum_of top (window 1 one (from + 1))
 
-  one_is : Shared off one from 1 0 c top 0 one-sum
+  one_is : Shared off one from 1 0 c top 0 one_sum
   unfolding off one window
   one_is = record {
     kept = record { long = length-set ws (from + 1) v ∙ sym (length-set ws (from + 1) 0); same = λ i l. other i v l ∙ sym (other i 0 l) };
@@ -365,11 +365,11 @@ module _ (counts entries : List ℕ) (q : ℕ) (ws : List ℕ) (from top : ℕ) 
     sums = λ y. refl;
   }
 
-  none_is : Entered entries (get_or entries q 0) one one from 1 top one-sum one-sum
+  none_is : Entered entries (get_or entries q 0) one one from 1 top one_sum one_sum
   unfolding one
   none_is =
       (enter_done _ _ _ _ _ _ _ (omega arith)
-      (enter_start entries (get_or entries q 0) one from 1 top one-sum (sum_under top _) (λ m l. let z = here m v l in omega arith) ee (omega arith))).1
+      (enter_start entries (get_or entries q 0) one from 1 top one_sum (sum_under top _) (λ m l. let z = here m v l in omega arith) ee (omega arith))).1
 
   pub weigh_one : (width : ℕ) → width ≡ 1
       → KeptBelow ws (set ws (from + 1) v) (from + width) × (window width (set ws (from + 1) v) (from + width) ≡ weigh_at (counts, entries) top width q (window width ws from))
@@ -386,8 +386,8 @@ module _ (ws : List ℕ) (number width top : ℕ) (none : NoneFrom ws 0) where
   begin_out = sum_none top width ws 0 (λ m l. none (0 + m) (omega arith))
 
   module _ (room : width ≤ length ws) (narrow : width ≤ 256) {at : ℕ} (ea : at ≡ number) (h : number < width) where
-    begin-is : window width (set ws at 1) 0 ≡ once_by number
-    begin-is = λ x j. point j x
+    begin_is : window width (set ws at 1) 0 ≡ once_by number
+    begin_is = λ x j. point j x
       where
         point : (j : ℕ) → window width (set ws at 1) 0 j ≡ once_by number j
         point j =
@@ -402,9 +402,9 @@ module _ (ws : List ℕ) (number width top : ℕ) (none : NoneFrom ws 0) where
             (λ r. window_in width (set ws at 1) 0 j (ltb-true j width r) ∙ (get_or-set_other ws at (0 + j) 1 0 (λ y. e (omega arith)) ∙ none (0 + j) (omega arith)))
             (λ r. window_out width (set ws at 1) 0 j (ltb-false j width r))))
 
-    once-sum : capped top (0 + 1) ≡ sum_of top (once_by number)
+    once_sum : capped top (0 + 1) ≡ sum_of top (once_by number)
     unfolding sum_of
-    once-sum =
+    once_sum =
         let z = weighted_pick (once_by number) (λ j. 1) number (omega arith) (λ i ne. none_of 1 (rw (ne_eqb number i ne))) in
         let y : once_by number number ≡ 1 = rw (eq-eqb number number refl) in
         omega arith
@@ -413,4 +413,4 @@ module _ (ws : List ℕ) (number width top : ℕ) (none : NoneFrom ws 0) where
         → (length (set ws at 1) ≡ length ws) × ((number < width → window width (set ws at 1) 0 ≡ once_by number)
         × ((sum ≡ sum_of top (window width (set ws at 1) 0)) × NoneFrom (set ws at 1) width))
     begun es =
-        (length-set ws at 1, (λ l. begin-is, (es ∙ (once-sum ∙ ap (sum_of top) (sym begin-is)), λ i l. get_or-set_other ws at i 1 0 (λ e. omega arith) ∙ none i (omega arith))))
+        (length-set ws at 1, (λ l. begin_is, (es ∙ (once_sum ∙ ap (sum_of top) (sym begin_is)), λ i l. get_or-set_other ws at i 1 0 (λ e. omega arith) ∙ none i (omega arith))))

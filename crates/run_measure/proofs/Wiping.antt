@@ -83,8 +83,8 @@ module _ (entries old : List ℕ) (at width : ℕ) where
         let d : linked (before e (get_or entries e 0)) entries (before e (get_or entries e 0)) (256 * j + m) ≡ 0 = rw (← ex, ← eo) h in
         a ∙ rw (b, d)
 
-    pub wipe-next : width ≤ 256 → Wiping entries old vs at width after
-    wipe-next narrow = record {
+    pub wipe_next : width ≤ 256 → Wiping entries old vs at width after
+    wipe_next narrow = record {
       kept = kept_then w.kept s.0;
       none = λ i l. s.1.0 i (w.none i l);
       low = let z = before_less e next some in let y = w.low in omega arith;
@@ -94,8 +94,8 @@ module _ (entries old : List ℕ) (at width : ℕ) where
           (λ t. s.1.0 (at + m) (w.only m a b (λ j. other m j (eqb-false (key % 256) m t) (omega arith) (z j))));
     }
 
-    pub wipe-less : after < e
-    wipe-less = let z = before_less e next some in omega arith
+    pub wipe_less : after < e
+    wipe_less = let z = before_less e next some in omega arith
 
 -- own_one
 pub own_pass : (top sum key x : ℕ) → sum ≤ top → (key % 256 ≡ 0 → ⊥) → sum ≡ capped top (sum + cond (eqb (key % 256) 0) x 0)
@@ -135,8 +135,8 @@ module _ (counts entries : List ℕ) (q : ℕ) (ws : List ℕ) (from width top :
   module _ {e key n next after sum more : ℕ} (w : Owning counts entries q ws from width top e sum) (some : 1024 ≤ e)
       (ek : key ≡ get_or entries (e + 1) 0) (small : key < 65536) (en : n ≡ get_or entries (e + 2) 0) (ex : next ≡ get_or entries e 0) (eo : after ≡ before e next)
       (s : more ≡ capped top (sum + cond (eqb (key % 256) 0) (window width ws from (key / 256) * n) 0)) where
-    pub own-next : Owning counts entries q ws from width top after more
-    own-next = record {
+    pub own_next : Owning counts entries q ws from width top after more
+    own_next = record {
       under = omega arith;
       low = let z = before_less e next some in let y = w.low in omega arith;
       left =
@@ -147,5 +147,5 @@ module _ (counts entries : List ℕ) (q : ℕ) (ws : List ℕ) (from width top :
           rw (eo, ex) (omega arith);
     }
 
-    pub own-less : after < e
-    own-less = let z = before_less e next some in omega arith
+    pub own_less : after < e
+    own_less = let z = before_less e next some in omega arith

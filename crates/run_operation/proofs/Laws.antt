@@ -201,42 +201,42 @@ module _ {s t x : List ℕ} {f : Translation} (z : Checked s t x f) (k j top : �
       read_all = read_done.1 ∙ ap (Meant.done read_done.0) (drop_of_length-le b {i = e} (omega arith))
 
       -- The tree is legal.
-      pub tree-whole : (t : Code) × Reads f k j ends b t
-      tree-whole = (read_done.0, record { has = has; is = read_all; kept = w.kept })
+      pub tree_whole : (t : Code) × Reads f k j ends b t
+      tree_whole = (read_done.0, record { has = has; is = read_all; kept = w.kept })
 
-      fitted-is : (d : Bool) → ltb room n ≡ d → ltb room (size (transform f j read_done.0)) ≡ d
+      fitted_is : (d : Bool) → ltb room n ≡ d → ltb room (size (transform f j read_done.0)) ≡ d
       unfolding room
-      fitted-is d h = sym (over_room room top (size (transform f j read_done.0)) over) ∙ (ap (ltb room) (sym read_done.2) ∙ h)
+      fitted_is d h = sym (over_room room top (size (transform f j read_done.0)) over) ∙ (ap (ltb room) (sym read_done.2) ∙ h)
 
-      pub tree-long : {out : Outcome} {paid : ℕ} → length o < n → out ≡ Refused Why.OutputTooShort → paid ≡ 0 → Ran f k j b o o paid out
+      pub tree_long : {out : Outcome} {paid : ℕ} → length o < n → out ≡ Refused Why.OutputTooShort → paid ≡ 0 → Ran f k j b o o paid out
       unfolding room
-      tree-long h i free = ran_refused f k j b o (by_read read_all ∙ rw (fitted-is true (lt-ltb room n h)) refl) i free
+      tree_long h i free = ran_refused f k j b o (by_read read_all ∙ rw (fitted_is true (lt-ltb room n h)) refl) i free
 
       -- The run of the tree that was read, where it fits, and its cost: a count up to the top is reported as the whole count is.
-      tree-run : n ≤ length o → run_of f k j b (length o) ≡ value (run_by f j read_done.0)
+      tree_run : n ≤ length o → run_of f k j b (length o) ≡ value (run_by f j read_done.0)
       unfolding room
-      tree-run h = by_read read_all ∙ rw (fitted-is false (le-ltb room n h)) refl
+      tree_run h = by_read read_all ∙ rw (fitted_is false (le-ltb room n h)) refl
 
       tree_is : tree_of f.source k b ≡ value read_done.0
       unfolding tree_of
       tree_is = rw (there, read_all) refl
 
-      tree-costs : {paid : ℕ} → n ≤ length o → largest_cost ≤ top → paid ≡ min c largest_cost → paid ≡ cost_of f k j b (length o)
+      tree_costs : {paid : ℕ} → n ≤ length o → largest_cost ≤ top → paid ≡ min c largest_cost → paid ≡ cost_of f k j b (length o)
       unfolding cost_of
-      tree-costs h l i =
+      tree_costs h l i =
           let q = read_done.3 in
           let y : min c largest_cost ≡ min (cost (clauses_of f) j read_done.0) largest_cost = omega arith in
-          i ∙ (y ∙ rw (tree-run h, tree_is) refl)
+          i ∙ (y ∙ rw (tree_run h, tree_is) refl)
 
-      pub tree-fits : {out : Outcome} {after : List ℕ} {paid : ℕ} → n ≤ length o → largest_cost ≤ top → paid ≡ min c largest_cost
+      pub tree_fits : {out : Outcome} {after : List ℕ} {paid : ℕ} → n ≤ length o → largest_cost ≤ top → paid ≡ min c largest_cost
           → ((t : Code) → Reads f k j ends b t → length (run_by f j t) ≤ length o → Answers (value (run_by f j t)) o after out)
           → Ran f k j b o after paid out
       unfolding room
-      tree-fits h most i g =
+      tree_fits h most i g =
           let q = read_done.2 in
           let l = within_room room top (size (transform f j read_done.0)) over (omega arith) in
           let y : Reads f k j ends b read_done.0 = record { has = has; is = read_all; kept = w.kept } in
-          record { answers = answer_same (tree-run h) (g read_done.0 y (omega arith)); costs = tree-costs h most i }
+          record { answers = answer_same (tree_run h) (g read_done.0 y (omega arith)); costs = tree_costs h most i }
 
 -- The outcome, the output and the cost are those of the operation.
 abbrev pub AsRun : List ℕ → (root number : ℕ) → List ℕ → List ℕ → List ℕ → ℕ → Outcome → Type 0
@@ -250,19 +250,19 @@ module _ (s : List ℕ) (root j : ℕ) (b o : List ℕ) where
   run_is out after paid h i = (h.answer, h.left, i)
 
   module _ (f : Translation) (e : translation_of s ≡ value f) (out : Outcome) where
-    run-same : run_bytes s root j b (length o) ≡ run_of f root j b (length o)
+    run_same : run_bytes s root j b (length o) ≡ run_of f root j b (length o)
     unfolding run_bytes run_of
-    run-same = rw e
+    run_same = rw e
 
-    cost-same : run_cost s root j b (length o) ≡ cost_of f root j b (length o)
+    cost_same : run_cost s root j b (length o) ≡ cost_of f root j b (length o)
     unfolding run_cost clauses_applied cost_of
-    cost-same = rw (run-same, e) refl
+    cost_same = rw (run_same, e) refl
 
-    pub run-accepted : (after : List ℕ) (paid : ℕ) → Ran f root j b o after paid out → AsRun s root j b o after paid out
-    run-accepted after paid h = run_is out after paid (answer_same run-same h.answers) (h.costs ∙ sym cost-same)
+    pub run_accepted : (after : List ℕ) (paid : ℕ) → Ran f root j b o after paid out → AsRun s root j b o after paid out
+    run_accepted after paid h = run_is out after paid (answer_same run_same h.answers) (h.costs ∙ sym cost_same)
 
-    mapped-whole : (u : ℕ) → mapping_of f.body root j ≡ some u → (root < 32) × (j < 256)
-    mapped-whole u q =
+    mapped_whole : (u : ℕ) → mapping_of f.body root j ≡ some u → (root < 32) × (j < 256)
+    mapped_whole u q =
         let w = translation_whole s f e in
         let v = mapping_mem f.body root j u q in
         let x = all_mem item_whole f.body w.1.body (mapping root j u) v in
@@ -270,8 +270,8 @@ module _ (s : List ℕ) (root j : ℕ) (b o : List ℕ) where
 
     pub root_past : {paid : ℕ} → (31 < root) ⊎ (255 < j) → out ≡ Refused Why.UnknownRoot → paid ≡ 0 → AsRun s root j b o o paid out
     root_past {paid} h i free =
-        run-accepted o paid (by_test (is_some (mapping_of f.body root j))
-        (λ q. let u = some_is (mapping_of f.body root j) q in let l = mapped-whole u.0 u.1 in ⊎_elim (λ g. absurd (omega arith)) (λ g. absurd (omega arith)) h)
+        run_accepted o paid (by_test (is_some (mapping_of f.body root j))
+        (λ q. let u = some_is (mapping_of f.body root j) q in let l = mapped_whole u.0 u.1 in ⊎_elim (λ g. absurd (omega arith)) (λ g. absurd (omega arith)) h)
         (λ q. kind_out f root j b o refl q i free))
 
   pub run_refused : (c out : Outcome) (r : Reason) {paid : ℕ} → c ≡ check_translation s → c ≡ Refused r → out ≡ Refused r → paid ≡ 0 → AsRun s root j b o o paid out

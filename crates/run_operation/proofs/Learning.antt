@@ -57,8 +57,8 @@ module _ (s index b : List ℕ) (l : Language) (indexed : Indexed index s l) (ap
 
   -- What was kept by measuring, in a table that was all zero, is right.
   pub learnt_right : (before after : List ℕ) → ((j : ℕ) → get_or before j 0 ≡ 0) → Learnt s index b before after → Right Tree after b l []
-  learnt_right before after zeros learnt k at e h u typed stands = by-case (learnt k at e h)
+  learnt_right before after zeros learnt k at e h u typed stands = by_case (learnt k at e h)
     where
-      by-case : Kept before k at e ⊎ ((n : ℕ) × (read_at Tree s index [] b n k at ≡ End e) × (e ≤ length b)) → e ≡ at + length (Meant.write Meant.tree u)
-      by-case (inl z) = absurd (omega (arith, z.some, z.end, zeros (2 * z.slot + 1)))
-      by-case (inr z) = read_ends z.0 k at e h.kind z.1 z.2 u typed stands
+      by_case : Kept before k at e ⊎ ((n : ℕ) × (read_at Tree s index [] b n k at ≡ End e) × (e ≤ length b)) → e ≡ at + length (Meant.write Meant.tree u)
+      by_case (inl z) = absurd (omega (arith, z.some, z.end, zeros (2 * z.slot + 1)))
+      by_case (inr z) = read_ends z.0 k at e h.kind z.1 z.2 u typed stands

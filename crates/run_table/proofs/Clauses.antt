@@ -189,9 +189,9 @@ module _ {s t b : List ℕ} {f : Translation} (z : Checked s t b f) where
       go (suc x) q y = let v : x ≡ t = some_inj (rw q at y) in omega arith
 
   module _ (bytes : (i : ℕ) → get_or b i 0 < 256) where
-    pub clause-there : (p : ℕ) → Mem p (places b) → is_clause_tag (get_or b p 0) ≡ true → ClauseAt b f p
+    pub clause_there : (p : ℕ) → Mem p (places b) → is_clause_tag (get_or b p 0) ≡ true → ClauseAt b f p
     unfolding read_clause
-    clause-there p m tag =
+    clause_there p m tag =
         let k : ℕ = get_or b (p + 3) 0 in
         let n : ℕ = get_or b (p + 4) 0 in
         let j : ℕ = clause_number b p in
@@ -260,9 +260,9 @@ module _ (s index b uses : List ℕ) (p : ℕ) (t : List ℕ) where
     pub field_past : 31 < k → (l : Language) (given : Uses) (a : Code) → FieldAsks s index b uses p l given a → FieldSpanned b p t t a
     field_past h l given a w = let i = w.kind tag in absurd (omega (arith, same_kind))
 
-    pub field-spanned : (c : ℕ) → c ≡ code_start b p → (u : List ℕ) (r : ℕ) → ((l : Language) (given : Uses) (a : Code) → CodeAsks s index b k c 16 l given a → Spanned t u c a r)
+    pub field_spanned : (c : ℕ) → c ≡ code_start b p → (u : List ℕ) (r : ℕ) → ((l : Language) (given : Uses) (a : Code) → CodeAsks s index b k c 16 l given a → Spanned t u c a r)
         → (l : Language) (given : Uses) (a : Code) → FieldAsks s index b uses p l given a → FieldSpanned b p t u a
-    field-spanned c ec u r h l given a w =
+    field_spanned c ec u r h l given a w =
         let y = h l given a (rw (same_kind, ec) (w.code tag)) in
         let m = start_past b p in
         record { below = below_then t t u p c (omega arith) (below_none t p) y.below; spans = λ e. rw ec at y.spans }
@@ -290,20 +290,20 @@ walk_starts target index b uses t s f w = record { below = below_none t 0; rest 
 
 module _ (target index b uses t u : List ℕ) (p : ℕ) (bytes : (i : ℕ) → get_or b i 0 < 256) where
   module _ (s : List ℕ) (f : Translation) (w : WalkAsks s target index b uses f) (y : Walked b t u p f) where
-    abbrev given-here : Uses
-    given-here = uses_of f (get_or b (p + 3) 0) (get_or b (p + 4) 0)
+    abbrev given_here : Uses
+    given_here = uses_of f (get_or b (p + 3) 0) (get_or b (p + 4) 0)
 
     kind_here : ClauseAt b f p → mapped_by uses (get_or b (p + 3) 0) (clause_number b p) ≡ mapped f.body (get_or b (p + 3) 0) (clause_number b p)
     unfolding mapped
     kind_here c = mapped_by_lem w.checked uses w.mapped _ _ c.goal c.field.kind c.field.byte c.maps ∙ rw c.maps
 
-    field-asks : Mem p (places b) → FieldAsks target index b uses p f.target given-here (code_at b f p)
-    field-asks m = record {
+    field_asks : Mem p (places b) → FieldAsks target index b uses p f.target given_here (code_at b f p)
+    field_asks m = record {
       kind = λ e.
-          let c = clause-there w.checked bytes p m e in
+          let c = clause_there w.checked bytes p m e in
           rw (mapped_by_lem w.checked uses w.mapped _ _ c.goal c.field.kind c.field.byte c.maps) c.below;
       code = λ e.
-          let c = clause-there w.checked bytes p m e in
+          let c = clause_there w.checked bytes p m e in
           record {
             indexed = w.indexed;
             typed = rw (kind_here c) c.typed;
@@ -315,7 +315,7 @@ module _ (target index b uses t u : List ℕ) (p : ℕ) (bytes : (i : ℕ) → g
     done_kept : (v : List ℕ) → Below u v p → (x : ℕ) → Mem x (places b) → field_end b x ≤ p → (is_clause_tag (get_or b x 0) ≡ true → SpansAt u (code_start b x) (code_at b f x))
         → is_clause_tag (get_or b x 0) ≡ true → SpansAt v (code_start b x) (code_at b f x)
     done_kept v h x m e g tag =
-        let c = clause-there w.checked bytes x m tag in
+        let c = clause_there w.checked bytes x m tag in
         let l = clause_length b f x c in
         spans_kept u v (code_at b f x) (code_start b x) (λ j i k. h.same (21568 + j) (omega arith)) (g tag)
 
@@ -330,7 +330,7 @@ module _ (target index b uses t u : List ℕ) (p : ℕ) (bytes : (i : ℕ) → g
         let n = places_next b p h in
         let here : Mem p (places_from b p) = rw n (inl refl) in
         let m = y.rest p here in
-        let g = spans f.target given-here (code_at b f p) (field-asks m) in
+        let g = spans f.target given_here (code_at b f p) (field_asks m) in
         let past = end_past b p in
         record {
           below = below_then t u v 0 p (omega arith) y.below g.below;

@@ -61,9 +61,9 @@ module _ (t : List ℕ) (x k p j v : ℕ) (ev : v ≡ body_byte t x) where
   other_tag h = cc (ne_eqb v 0x29 h)
 
   module _ (tag : v ≡ 0x29) (w : ℕ) (ew : w ≡ body_byte t (x + 3)) where
-    pub other-kind : (w ≡ k → ⊥) → false ≡ numbered_is t x k p j
+    pub other_kind : (w ≡ k → ⊥) → false ≡ numbered_is t x k p j
     unfolding numbered_is
-    other-kind h = cc (eq-eqb v 0x29 tag, ne_eqb w k h)
+    other_kind h = cc (eq-eqb v 0x29 tag, ne_eqb w k h)
 
     module _ (kind : w ≡ k) (y : ℕ) (ey : y ≡ body_byte t (x + 4)) where
       pub other_name : (y ≡ p → ⊥) → false ≡ numbered_is t x k p j
@@ -153,8 +153,8 @@ module _ (t : List ℕ) (k n j p : ℕ) where
         let q : p + 1 + 1 ≡ p + 2 = omega arith in
         rw q (omega (arith, ee, h.same (p + 1) (omega arith), h.same (p + 2) (omega arith)))
 
-    ahead-next : numbered_is t p k n j ≡ false → (e : ℕ) → e ≡ field_end b p → Ahead b k n j e
-    ahead-next miss e ee = record {
+    ahead_next : numbered_is t p k n j ≡ false → (e : ℕ) → e ≡ field_end b p → Ahead b k n j e
+    ahead_next miss e ee = record {
       place = y.place;
       ahead = ⊎_elim
           (λ d. false_true (sym miss ∙ numbered_true t b f h p k n j (rw d at y.is)))
@@ -165,20 +165,20 @@ module _ (t : List ℕ) (k n j p : ℕ) where
     }
 
   module _ (y : Finding t k n j p) where
-    pub finding-hit : true ≡ numbered_is t p k n j → (f : Translation) (ks : List ℕ) → NumberedAsks t k n j f ks → Clause t (p + 6) (clauses_of f k n j)
-    finding-hit e f ks w =
+    pub finding_hit : true ≡ numbered_is t p k n j → (f : Translation) (ks : List ℕ) → NumberedAsks t k n j f ks → Clause t (p + 6) (clauses_of f k n j)
+    finding_hit e f ks w =
         let b : List ℕ = w.ready.bytes in
         let h = w.ready.held in
         h.clause p k n j (true_numbered t b f h p k n j (here b f h (y f ks w)) (sym e))
 
-    pub finding-next : false ≡ numbered_is t p k n j → (e : ℕ) → e ≡ p + 3 + (body_byte t (p + 1) * 256 + body_byte t (p + 2)) → Finding t k n j e
-    finding-next miss e ee f ks w =
+    pub finding_next : false ≡ numbered_is t p k n j → (e : ℕ) → e ≡ p + 3 + (body_byte t (p + 1) * 256 + body_byte t (p + 2)) → Finding t k n j e
+    finding_next miss e ee f ks w =
         let b : List ℕ = w.ready.bytes in
         let h = w.ready.held in
-        ahead-next b f h (y f ks w) (sym miss) e (end_same b f h (y f ks w) e ee)
+        ahead_next b f h (y f ks w) (sym miss) e (end_same b f h (y f ks w) e ee)
 
-    pub finding-ends : 4091 ≤ p → (f : Translation) (ks : List ℕ) → NumberedAsks t k n j f ks → Clause t p (clauses_of f k n j)
-    finding-ends l f ks w =
+    pub finding_ends : 4091 ≤ p → (f : Translation) (ks : List ℕ) → NumberedAsks t k n j f ks → Clause t p (clauses_of f k n j)
+    finding_ends l f ks w =
         let b : List ℕ = w.ready.bytes in
         let h = w.ready.held in
         let i = inside b f h (y f ks w) in

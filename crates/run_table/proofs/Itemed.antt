@@ -56,11 +56,11 @@ module _ (b : List ℕ) (x : ℕ) (t : List ℕ) (bytes : (i : ℕ) → get_or b
         below = λ j i. get_or-set_other t (8224 + (32 + pair_at b (x + 3))) j (x + 1) 0 (λ d. omega arith);
         past = λ j i. get_or-set_other t (8224 + (32 + pair_at b (x + 3))) j (x + 1) 0 (λ d. omega arith);
       }))
-      (λ h. rw (e, h) around-same))
-      (λ e. rw e around-same)
+      (λ h. rw (e, h) around_same))
+      (λ e. rw e around_same)
     where
-      around-same : Around t t 8224 16448
-      around-same = record { long = refl; below = λ j i. refl; past = λ j i. refl }
+      around_same : Around t t 8224 16448
+      around_same = record { long = refl; below = λ j i. refl; past = λ j i. refl }
 
   -- The clause itself is found.
   item_here : is_place b x ≡ true → get_or b x 0 ≡ 0x23 → get_or b (x + 3) 0 < 32 → ItemAt b (with_clause b x t) (get_or b (x + 3) 0) (get_or b (x + 4) 0)

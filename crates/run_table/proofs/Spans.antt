@@ -14,7 +14,7 @@ use Rattle.format_fields.proofs.Truth.{by_test, none_some, some_inj}
 use Rattle.format_fields.proofs.Lists.{part_done, part_next}
 use Rattle.format_language.specs.Language.{Language, arguments_of, production_key}
 use Rattle.tree_reader.specs.Code.{Code, node, token, argument, Codes, nil, cons, levels, levels_all}
-use Rattle.tree_reader.specs.Typing.{Uses, Typed, TypedAll, typed-node, typed-token, typed-argument, typed-nil, typed-cons}
+use Rattle.tree_reader.specs.Typing.{Uses, Typed, TypedAll, typed_node, typed_token, typed_argument, typed_nil, typed_cons}
 use Rattle.tree_reader.specs.Syntax.{write, write_all, code}
 use Rattle.tree_reader.specs.Inner.Index.{Sound, Indexed, arguments_before}
 use Rattle.tree_reader.specs.Inner.Positions.{KindsIn}
@@ -203,14 +203,14 @@ module _ (s index b : List ℕ) (k at n : ℕ) where
 
   noded : (l : Language) (given : Uses) {a : Code} → Typed l given a k → Stands b at (write code a) → levels a ≤ n → get_or b at 0 ≡ 1 → Noded l given a
   unfolding write levels
-  noded l given (typed-node {p = p} {t = t} {ks = ks} e h) y i d =
+  noded l given (typed_node {p = p} {t = t} {ks = ks} e h) y i d =
       let x = stands_head b at 1 _ y in
       let z = stands_head b (at + 1) p _ x.2 in
       let two : at + 1 + 1 ≡ at + 2 = omega arith in
       (p, t, ks, refl, z.1, e, h, rw two at z.2, i)
-  noded l given (typed-token {v = v} e h) y i d = let x = (stands_head b at 2 _ y).1 in absurd (omega (arith, x))
-  noded l given (typed-argument {i = m} {j = zero} e) y i d = let x = (stands_head b at 3 _ y).1 in absurd (omega (arith, x))
-  noded l given (typed-argument {i = m} {j = suc j} e) y i d = let x = (stands_head b at 4 _ y).1 in absurd (omega (arith, x))
+  noded l given (typed_token {v = v} e h) y i d = let x = (stands_head b at 2 _ y).1 in absurd (omega (arith, x))
+  noded l given (typed_argument {i = m} {j = zero} e) y i d = let x = (stands_head b at 3 _ y).1 in absurd (omega (arith, x))
+  noded l given (typed_argument {i = m} {j = suc j} e) y i d = let x = (stands_head b at 4 _ y).1 in absurd (omega (arith, x))
 
   -- A production is a level.
   pub span_deep : (t u : List ℕ) (r : ℕ) → n ≡ 0 → get_or b at 0 ≡ 1 → (l : Language) (given : Uses) (a : Code) → CodeAsks s index b k at n l given a → Spanned t u at a r
@@ -225,17 +225,17 @@ module _ (s index b : List ℕ) (k at n : ℕ) where
         let same : m ≡ p = sym e ∙ sym ep in
         place_some s place ks (ap (arguments_before s) here ∙ (sym (z.arguments k p kind byte) ∙ (ap (arguments_of l k) (sym same) ∙ a)))
 
-    pub span-unknown : (t u : List ℕ) (r : ℕ) → place ≡ 0 → (l : Language) (given : Uses) (a : Code) → CodeAsks s index b k at n l given a → Spanned t u at a r
-    span-unknown t u r h l given a w =
+    pub span_unknown : (t u : List ℕ) (r : ℕ) → place ≡ 0 → (l : Language) (given : Uses) (a : Code) → CodeAsks s index b k at n l given a → Spanned t u at a r
+    span_unknown t u r h l given a w =
         let d = noded l given w.typed w.stands w.within sign in
         let q = production l d.2 d.0 w.indexed d.4 d.5 in
         absurd (omega (arith, q.1))
 
     -- The operands of a production.
-    pub turn-starts : (t : List ℕ) (m stop : ℕ) → length t ≡ 26184 → length b ≤ 4096 → m ≡ pair_at s place → stop ≡ place + 2 + m → KindsIn s (place + 4) stop
+    pub turn_starts : (t : List ℕ) (m stop : ℕ) → length t ≡ 26184 → length b ≤ 4096 → m ≡ pair_at s place → stop ≡ place + 2 + m → KindsIn s (place + 4) stop
         → Turn s index b k at n t t (place + 4) stop (at + 2)
     unfolding field_end
-    turn-starts t m stop long short em es kinds l given a w =
+    turn_starts t m stop long short em es kinds l given a w =
         let d = noded l given w.typed w.stands w.within sign in
         let q = production l d.2 d.0 w.indexed d.4 d.5 in
         let from : q.0 + 5 ≡ place + 4 = omega (arith, q.1) in
@@ -275,8 +275,8 @@ module _ (s index b : List ℕ) (k at n : ℕ) (t₀ t : List ℕ) (q e c : ℕ)
       → (a : Code) × (rest : Codes) × (js : List ℕ) × (ts ≡ cons a rest) × CodeAsks s index b (get_or s q 0) c (n - 1) l given a
       × ((x : ℕ) → x ≡ c + length (write code a) → Row s index b (q + 1) e x (n - 1) l given rest js)
   unfolding write_all levels_all
-  row_next l given ts ks h typed-nil w = let i = row_end s q e w.kinds w.part in absurd (omega arith)
-  row_next l given ts ks h (typed-cons {a = a} {k = j} {t = rest} {ks = js} z zs) w =
+  row_next l given ts ks h typed_nil w = let i = row_end s q e w.kinds w.part in absurd (omega arith)
+  row_next l given ts ks h (typed_cons {a = a} {k = j} {t = rest} {ks = js} z zs) w =
       let f = row_first s q e j js w.kinds w.part in
       let st = stands_both b c (write code a) (write_all code rest) w.stands in
       let deep = w.within in (
@@ -312,8 +312,8 @@ module _ (s index b : List ℕ) (k at n : ℕ) (t₀ t : List ℕ) (q e c : ℕ)
       after t c (none_left row.typed row)
     where
       none_left : {ts : Codes} {ks : List ℕ} → TypedAll l given ts ks → Row s index b q e c (n - 1) l given ts ks → RowSpanned t t c ts c
-      none_left typed-nil row = record { to = omega arith; spans = _; below = below_none t c }
-      none_left (typed-cons {k = j} {ks = js} z zs) row = let f = row_first s q e j js row.kinds row.part in absurd (omega (arith, f.0))
+      none_left typed_nil row = record { to = omega arith; spans = _; below = below_none t c }
+      none_left (typed_cons {k = j} {ks = js} z zs) row = let f = row_first s q e j js row.kinds row.part in absurd (omega (arith, f.0))
 
 -- The same of a table that is equal.
 pub ends_as : {s index b : List ℕ} {k at n : ℕ} {t₀ : List ℕ} {r : ℕ} (u v : List ℕ) → u ≡ v

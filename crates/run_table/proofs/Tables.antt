@@ -28,7 +28,7 @@ use Rattle.format_translation.specs.Inner.Items.{is_clause_tag}
 use Rattle.format_translation.proofs.Fitting.{uses_are, fit_carries}
 use Rattle.run_table.specs.Inner.Table.{Production, Clause, Ready, Held, Checked, index_entry, clause_entry, code_start, clause_number}
 use Rattle.run_table.proofs.Spans.{place_some, below_then, spans_kept}
-use Rattle.run_table.proofs.Clauses.{code_at, whole, fits, body_rises, mem_place, place_mem, plain_start, numbered_start, numbered_found, clause-there, clause_found, clause_length}
+use Rattle.run_table.proofs.Clauses.{code_at, whole, fits, body_rises, mem_place, place_mem, plain_start, numbered_start, numbered_found, clause_there, clause_found, clause_length}
 use Rattle.format_fields.specs.Inner.Places.{field_end, places, key_at, slot_at}
 use Rattle.tree_reader.specs.Inner.Index.{put_all, Built, Around, Sound, Indexed, range_before}
 use Rattle.tree_reader.proofs.Placed.{puts_place, found}
@@ -243,14 +243,14 @@ module _ (s g b t t₂ v y x u : List ℕ) (f : Translation) (z : Checked s g b 
     unfolding field_end
     stop_is = let n : pair_at s (suc there.0) ≡ pair_at s (there.0 + 1) = ap (pair_at s) (omega arith) in omega arith
 
-    kinds-there : KindsIn s (there.0 + 5) (field_end s there.0)
-    kinds-there x i j =
+    kinds_there : KindsIn s (there.0 + 5) (field_end s there.0)
+    kinds_there x i j =
         let pos : suc there.0 ≡ 0 → ⊥ = λ v. omega arith in
         kinds_in index s indexed.sound refl kind byte (sym there.1) pos refl x (omega arith) (omega (arith, stop_is))
 
-    production-there : Production u (index_entry u (production_key k p)) ks
+    production_there : Production u (index_entry u (production_key k p)) ks
     unfolding field_end pair_at
-    production-there =
+    production_there =
         let q : ℕ = there.0 in
         let c = is_production in
         let at : get_or u (production_key k p) 0 ≡ q + 1 = entry (production_key k p) (omega arith) ∙ omega (arith, there.1) in
@@ -274,16 +274,16 @@ module _ (s g b t t₂ v y x u : List ℕ) (f : Translation) (z : Checked s g b 
                 ap (λ (m : ℕ). get_or u m 0) m ∙ (source_at (q + 5 + j) (omega (arith, x.0)) ∙ sym x.1)));
             below = λ j i.
                 let x = part_get s (q + 5) (field_end s q) ks there.2 c.fits j i in
-                rw x.1 (kinds-there (q + 5 + j) (omega arith) x.0).1;
+                rw x.1 (kinds_there (q + 5 + j) (omega arith) x.0).1;
           };
           few = omega (arith, n);
         }
 
   -- The code of each clause, of any number.
   module _ (q : ℕ) (m : Mem q (places b)) (tag : is_clause_tag (get_or b q 0) ≡ true) where
-    place-ready : Clause u (code_start b q) (code_at b f q)
-    place-ready =
-        let c = clause-there z bytes q m tag in
+    place_ready : Clause u (code_start b q) (code_at b f q)
+    place_ready =
+        let c = clause_there z bytes q m tag in
         let ends = c.field.ends in
         let n = clause_length b f q c in
         let short = z.short in
@@ -307,7 +307,7 @@ module _ (s g b t t₂ v y x u : List ℕ) (f : Translation) (z : Checked s g b 
   clause_ready k p ks kind byte e =
       let c = clause_found z x u o k p ks kind e in
       let n = plain_start b c.place c.tag in
-      clause_as (omega (arith, n.0, c.is)) c.kind c.name n.1 (place-ready c.place (place_mem b c.place c.there) (rw c.tag))
+      clause_as (omega (arith, n.0, c.is)) c.kind c.name n.1 (place_ready c.place (place_mem b c.place c.there) (rw c.tag))
 
   typed_there : (k p j : ℕ) (ks : List ℕ) → arguments_of f.source k p ≡ some ks → is_some (mapping_of f.body k j) ≡ true
       → Typed f.target (uses_of f k p) (clauses_of f k p j) (mapped f.body k j)
@@ -323,9 +323,9 @@ module _ (s g b t t₂ v y x u : List ℕ) (f : Translation) (z : Checked s g b 
     there = λ k p j ks h e s. numbered_found z k p j ks h e s;
     clause = λ q k p j c.
         let n = numbered_start b q c.tag in
-        clause_as n.0 c.kind c.name (n.1 ∙ c.number) (place-ready q (place_mem b q c.place) (rw c.tag));
+        clause_as n.0 c.kind c.name (n.1 ∙ c.number) (place_ready q (place_mem b q c.place) (rw c.tag));
     whole = λ q m tag.
-        let c = clause-there z bytes q (place_mem b q m) (rw tag) in
+        let c = clause_there z bytes q (place_mem b q m) (rw tag) in
         let n = numbered_start b q tag in
         omega (arith, n.0, c.field.past, c.field.ends);
     hint = λ i k.
@@ -339,7 +339,7 @@ module _ (s g b t t₂ v y x u : List ℕ) (f : Translation) (z : Checked s g b 
     class = λ k c h e. rw (entry k (omega arith)) (some_range s (get_or index k 0) c (sym (indexed.range k h) ∙ e));
     name = λ k p ks h e.
         entry k (omega arith) ∙ no_range s (get_or index k 0) (sym (indexed.range k h) ∙ apart f.source (whole z).0.source_apart k p ks e);
-    production = λ k p ks h i e. production-there k p ks h i e;
+    production = λ k p ks h i e. production_there k p ks h i e;
     clause = clause_ready;
     typed = λ k p j ks h i e s. typed_there k p j ks e s;
     bytes = b;

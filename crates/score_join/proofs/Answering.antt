@@ -59,8 +59,8 @@ answers_same e h = rw (← e) h
 -- What is looked up in a table that begins with the index.
 module _ (s index part : List ℕ) (fig : List ℤ) (l : Language) (w : Loads) (long : 8224 ≤ length part) (same : (j : ℕ) → j < 8224 → get_or part j 0 ≡ get_or index j 0)
   where
-    world-front : World s index fig l w → World s part fig l w
-    world-front z = record {
+    world_front : World s index fig l w → World s part fig l w
+    world_front z = record {
       indexed = indexed_front index part s long same l z.indexed;
       apart = z.apart;
       small = z.small;
@@ -83,7 +83,7 @@ parts_held s t indexes b items fig f w bytes q z n k ind =
       checked = z;
       plain_body = n;
       world = rw (rest_is indexes 8224)
-          (world-front t (put_all 0x11 t x.zeros (places t)) (drop 8224 indexes) fig f.target (figure_of w) (omega (arith, q.long))
+          (world_front t (put_all 0x11 t x.zeros (places t)) (drop 8224 indexes) fig f.target (figure_of w) (omega (arith, q.long))
           (λ j h. get_or-drop 8224 indexes j 0 ∙ x.is j h) whole);
       indexed = ind f.body z.pieces.body;
     }
@@ -105,22 +105,22 @@ module _ (f : Translation) (w : Table) (o joined buffer : List ℕ) (r : Joined)
     long : n ≡ length bytes
     long = let x = put_is.end in omega arith
 
-    pub held-inside : length joined ≡ length buffer → Inside joined 0 n
-    held-inside l = record { rise = omega arith; fits = let x = put_is.fits in omega arith }
+    pub held_inside : length joined ≡ length buffer → Inside joined 0 n
+    held_inside l = record { rise = omega arith; fits = let x = put_is.fits in omega arith }
 
-    pub held-short : {out : Outcome} → length o < n → out ≡ Refused Why.OutputTooShort → Answers (join_on f w (length o)) o o out
+    pub held_short : {out : Outcome} → length o < n → out ≡ Refused Why.OutputTooShort → Answers (join_on f w (length o)) o o out
     unfolding join_on joined_of
-    held-short h i = answer_refused (rw ((u.done n e).0, lt-ltb (length o) (length bytes) (rw (← long) h)) refl) i
+    held_short h i = answer_refused (rw ((u.done n e).0, lt-ltb (length o) (length bytes) (rw (← long) h)) refl) i
 
     part : slice 0 n joined ≡ bytes
     part =
         ap (slice 0 n) (put_is.bytes ∙ opened buffer 0 bytes)
         ∙ (ap (λ (i : ℕ). take i (bytes ++ drop (0 + length bytes) buffer)) long ∙ take-append_seam bytes (drop (0 + length bytes) buffer))
 
-    pub held-put : {out : Outcome} (after : List ℕ) → n ≤ length o → (q : Stored) → Stores (slice 0 n joined) o after 0 q → out ≡ Accepted n
+    pub held_put : {out : Outcome} (after : List ℕ) → n ≤ length o → (q : Stored) → Stores (slice 0 n joined) o after 0 q → out ≡ Accepted n
         → Answers (join_on f w (length o)) o after out
     unfolding join_on joined_of
-    held-put {out} after h q st i = answers_same same (record { answer = i ∙ ap Accepted long; left = go q (rw part at st) })
+    held_put {out} after h q st i = answers_same same (record { answer = i ∙ ap Accepted long; left = go q (rw part at st) })
       where
         same : value bytes ≡ join_on f w (length o)
         same = rw ((u.done n e).0, le-ltb (length o) (length bytes) (rw (← long) h)) refl
@@ -151,16 +151,16 @@ module _ (f : Translation) (t o : List ℕ) {x : Bool} (ex : x ≡ is_some (load
     there : (w : Table) × (loads_of f.target (fields_of t) ≡ some w)
     there = some_is (loads_of f.target (fields_of t)) (sym ex ∙ h)
 
-    pub the-table : Table
-    the-table = there.0
+    pub the_table : Table
+    the_table = there.0
 
-    pub table_is : loads_of f.target (fields_of t) ≡ some the-table
-    unfolding the-table
+    pub table_is : loads_of f.target (fields_of t) ≡ some the_table
+    unfolding the_table
     table_is = there.1
 
-    pub table-joined : {after : List ℕ} {out : Outcome} → Answers (join_on f the-table (length o)) o after out → Answers (join_with f t (length o)) o after out
+    pub table_joined : {after : List ℕ} {out : Outcome} → Answers (join_on f the_table (length o)) o after out → Answers (join_with f t (length o)) o after out
     unfolding join_with table_of
-    table-joined a = answers_same (rw table_is refl) a
+    table_joined a = answers_same (rw table_is refl) a
 
 -- join_parts
 module _ (f : Translation) (t o : List ℕ) {x : Bool} (ex : x ≡ plain f.body) where
@@ -193,6 +193,6 @@ module _ (s t o : List ℕ) where
     pub parts_checked : {x y z : List ℕ} → x ≡ source_in s → y ≡ target_in s → z ≡ body_in s → Checked x y z f
     parts_checked ex ey ez = rw (ex, ey, ez) (record { pieces = pieces_in s f e; short = body_in_short s f e; file = s; accepted = e })
 
-    pub join-accepted : {out : Outcome} {after : List ℕ} → Answers (join_any f t (length o)) o after out → (out ≡ (join_table s t o).outcome) × (after ≡ (join_table s t o).output)
+    pub join_accepted : {out : Outcome} {after : List ℕ} → Answers (join_any f t (length o)) o after out → (out ≡ (join_table s t o).outcome) × (after ≡ (join_table s t o).output)
     unfolding join_bytes join_any join_with join_on
-    join-accepted a = join_is (rw e a)
+    join_accepted a = join_is (rw e a)

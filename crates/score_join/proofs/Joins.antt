@@ -113,12 +113,12 @@ module _ {w : Loads} {u : Code} {count : ℕ} {o after : List ℕ} {pos to j : �
 
   module _ {row : List ℤ} {end : ℕ} {r : Formed} (d : RowOf w u count row end r) (x : ℕ) (y : r ≡ Ends.To x) (h : j < count) (z : ℤ)
       (ez : z ≡ place_of row j) where
-    pub figure-outside : is_figure z ≡ false → all (place_fits w u) (count_up count 0) ≡ false
-    figure-outside o = v.fits ∙ (fits_next w u count j h ∙ ap (λ (t : Bool). t && all (place_fits w u) (count_up (count - (j + 1)) (j + 1))) (row_fits d x y j h z ez false o))
+    pub figure_outside : is_figure z ≡ false → all (place_fits w u) (count_up count 0) ≡ false
+    figure_outside o = v.fits ∙ (fits_next w u count j h ∙ ap (λ (t : Bool). t && all (place_fits w u) (count_up (count - (j + 1)) (j + 1))) (row_fits d x y j h z ez false o))
 
-    pub figure-next : is_figure z ≡ true → (more : List ℕ) (m : ℕ) → Written (figure_bytes z) after more to m → Figuring w u count o more pos m (j + 1)
+    pub figure_next : is_figure z ≡ true → (more : List ℕ) (m : ℕ) → Written (figure_bytes z) after more to m → Figuring w u count o more pos m (j + 1)
     unfolding figure_bytes
-    figure-next g more m p =
+    figure_next g more m p =
         let l = written_long v.done o after pos to v.put in
         let s : z ≡ form w u j = ez ∙ row_is d x y j h in
         let e = p.end in
@@ -334,9 +334,9 @@ module _ {s t index b items : List ℕ} {fig : List ℤ} {f : Translation} {w : 
   }
 
   module _ {o after : List ℕ} {p n : ℕ} (v : Joins s f w o after p n) where
-    pub joins-end : length s ≤ p → Puts (all (load_fits f w) f.source) (encode_table (joined_table f w)) o after 0 (To n)
+    pub joins_end : length s ≤ p → Puts (all (load_fits f w) f.source) (encode_table (joined_table f w)) o after 0 (To n)
     unfolding concat_map all encode_table encode_fields
-    joins-end h =
+    joins_end h =
         let e : places_from s p ≡ [] = places_done s p h in
         let d : v.done ≡ encode_table (joined_table f w) =
         sym (append-nil v.done) ∙ (ap (λ (l : List ℕ). v.done ++ encode_table (concat_map (joined_load f w) (map (entry_at s) l))) (sym e) ∙ v.rest) in
@@ -346,11 +346,11 @@ module _ {s t index b items : List ℕ} {fig : List ℤ} {f : Translation} {w : 
       next : places_from s p ≡ p ∷ places_from s (field_end s p)
       next = places_next s p here
 
-      in-places : Mem p (places s)
-      in-places = v.there p (rw next (inl refl))
+      in_places : Mem p (places s)
+      in_places = v.there p (rw next (inl refl))
 
       entry : IsClass s p ⊎ IsProduction s p
-      entry = entry_facts s p (all_mem (entry_whole s) (places s) held.whole p in-places)
+      entry = entry_facts s p (all_mem (entry_whole s) (places s) held.whole p in_places)
 
       is_production : get_or s p 0 ≡ 0x12 → IsProduction s p
       is_production h = ⊎_elim (λ c. let g = c.tag in absurd (omega arith)) (λ c. c) entry
@@ -365,17 +365,17 @@ module _ {s t index b items : List ℕ} {fig : List ℤ} {f : Translation} {w : 
           let short = a.checked.pieces.source_short in
           ⊎_elim (λ c. (⊎_elim (λ m. omega arith) (λ m. omega arith) c.size, c.fits, short)) (λ c. (let m = c.two in omega arith, c.fits, short)) entry
 
-      rest-here : v.done ++ encode_table (concat_map (joined_load f w) (entry_at s p ∷ map (entry_at s) (places_from s (field_end s p)))) ≡ encode_table (joined_table f w)
-      rest-here = ap (λ (l : List ℕ). v.done ++ encode_table (concat_map (joined_load f w) (map (entry_at s) l))) (sym next) ∙ v.rest
+      rest_here : v.done ++ encode_table (concat_map (joined_load f w) (entry_at s p ∷ map (entry_at s) (places_from s (field_end s p)))) ≡ encode_table (joined_table f w)
+      rest_here = ap (λ (l : List ℕ). v.done ++ encode_table (concat_map (joined_load f w) (map (entry_at s) l))) (sym next) ∙ v.rest
 
-      fits-here : all (load_fits f w) f.source ≡ all (load_fits f w) (entry_at s p ∷ map (entry_at s) (places_from s (field_end s p)))
-      fits-here = v.fits ∙ ap (λ (l : List ℕ). all (load_fits f w) (map (entry_at s) l)) next
+      fits_here : all (load_fits f w) f.source ≡ all (load_fits f w) (entry_at s p ∷ map (entry_at s) (places_from s (field_end s p)))
+      fits_here = v.fits ∙ ap (λ (l : List ℕ). all (load_fits f w) (map (entry_at s) l)) next
 
-      there-next : (x : ℕ) → Mem x (places_from s (field_end s p)) → Mem x (places s)
-      there-next x m = v.there x (rw next (inr m))
+      there_next : (x : ℕ) → Mem x (places_from s (field_end s p)) → Mem x (places s)
+      there_next x m = v.there x (rw next (inr m))
 
-      pub joins-class : (get_or s p 0 ≡ 0x12 → ⊥) → (e : ℕ) → e ≡ field_end s p → Joins s f w o after e n
-      joins-class h e ee =
+      pub joins_class : (get_or s p 0 ≡ 0x12 → ⊥) → (e : ℕ) → e ≡ field_end s p → Joins s f w o after e n
+      joins_class h e ee =
           let i = entry_in in
           let r = v.room in
           let c = class_is s p (is_class h) in
@@ -383,39 +383,39 @@ module _ {s t index b items : List ℕ} {fig : List ℤ} {f : Translation} {w : 
           rw ee (record {
             done = v.done;
             put = v.put;
-            rest = ap (λ (x : List ℕ). v.done ++ x) (sym (ap (λ (x : Entry). encode_table (concat_map (joined_load f w) (x ∷ l))) c ∙ class_bytes f w _ _ l)) ∙ rest-here;
-            fits = fits-here ∙ (ap (λ (x : Entry). all (load_fits f w) (x ∷ l)) c ∙ class_fits f w _ _ l);
-            there = there-next;
+            rest = ap (λ (x : List ℕ). v.done ++ x) (sym (ap (λ (x : Entry). encode_table (concat_map (joined_load f w) (x ∷ l))) c ∙ class_bytes f w _ _ l)) ∙ rest_here;
+            fits = fits_here ∙ (ap (λ (x : Entry). all (load_fits f w) (x ∷ l)) c ∙ class_fits f w _ _ l);
+            there = there_next;
             room = omega (arith, i.0);
           })
 
       module _ (tag : get_or s p 0 ≡ 0x12) where
-        kinds-are : List ℕ
-        kinds-are = slice (p + 5) (field_end s p) s
+        kinds_are : List ℕ
+        kinds_are = slice (p + 5) (field_end s p) s
 
-        entry_is : entry_at s p ≡ production (get_or s (p + 3) 0) (get_or s (p + 4) 0) kinds-are
-        unfolding kinds-are
+        entry_is : entry_at s p ≡ production (get_or s (p + 3) 0) (get_or s (p + 4) 0) kinds_are
+        unfolding kinds_are
         entry_is = production_is s p (is_production tag)
 
-        count_is : (e : ℕ) → e ≡ field_end s p → e - p - 4 ≡ suc (length kinds-are)
-        unfolding kinds-are
+        count_is : (e : ℕ) → e ≡ field_end s p → e - p - 4 ≡ suc (length kinds_are)
+        unfolding kinds_are
         count_is e ee = let i = entry_in in let l = length-slice (p + 5) (field_end s p) s i.1 in omega (arith, i.0, l)
 
         pub load_asks : (count : ℕ) → LoadAsks s t index b items fig p count f w
         load_asks count = record {
           parts = a;
           production = is_production tag;
-          kinds = kinds-are;
-          known = mem_arguments f.source source_rises _ _ kinds-are (rw (← entry_is) (rw (← held.entries) (mem_map (entry_at s) p (places s) in-places)));
+          kinds = kinds_are;
+          known = mem_arguments f.source source_rises _ _ kinds_are (rw (← entry_is) (rw (← held.entries) (mem_map (entry_at s) p (places s) in_places)));
         }
 
         -- A load has a constant and at most eight factors.
-        pub join-few : (e : ℕ) → e ≡ field_end s p → (0 < e - p - 4) × (e - p - 4 ≤ 9)
+        pub join_few : (e : ℕ) → e ≡ field_end s p → (0 < e - p - 4) × (e - p - 4 ≤ 9)
         unfolding field_end
-        join-few e ee = let i = (is_production tag).two in let m = (is_production tag).ten in (omega arith, omega arith)
+        join_few e ee = let i = (is_production tag).two in let m = (is_production tag).ten in (omega arith, omega arith)
 
-        pub join-room : (e : ℕ) → e ≡ field_end s p → n + 5 + 2 * (e - p - 4) ≤ 2048
-        join-room e ee = let i = entry_in in let r = v.room in omega (arith, i.0, i.1, i.2)
+        pub join_room : (e : ℕ) → e ≡ field_end s p → n + 5 + 2 * (e - p - 4) ≤ 2048
+        join_room e ee = let i = entry_in in let r = v.room in omega (arith, i.0, i.1, i.2)
 
         module _ (e : ℕ) (ee : e ≡ field_end s p) (more : List ℕ) (r : Joined)
             (u : Puts (all (place_fits w (clause_at f s p)) (count_up (e - p - 4) 0)) (load_bytes f w s p (e - p - 4)) after more n r) where
@@ -426,14 +426,14 @@ module _ {s t index b items : List ℕ} {fig : List ℤ} {f : Translation} {w : 
           unfolding l
           test =
               ap (λ (m : ℕ). all (place_fits w (clause_at f s p)) (count_up m 0) && all (load_fits f w) l) (count_is e ee)
-              ∙ (sym (production_fits f w s p kinds-are l) ∙ (ap (λ (x : Entry). all (load_fits f w) (x ∷ l)) (sym entry_is) ∙ sym fits-here))
+              ∙ (sym (production_fits f w s p kinds_are l) ∙ (ap (λ (x : Entry). all (load_fits f w) (x ∷ l)) (sym entry_is) ∙ sym fits_here))
 
-          pub joins-outside : r ≡ Outside → all (load_fits f w) f.source ≡ false
-          joins-outside y = sym test ∙ ap (λ (x : Bool). x && all (load_fits f w) l) (u.outside y)
+          pub joins_outside : r ≡ Outside → all (load_fits f w) f.source ≡ false
+          joins_outside y = sym test ∙ ap (λ (x : Bool). x && all (load_fits f w) l) (u.outside y)
 
-          pub joins-next : (m : ℕ) → r ≡ To m → Joins s f w o more e m
+          pub joins_next : (m : ℕ) → r ≡ To m → Joins s f w o more e m
           unfolding l
-          joins-next m y =
+          joins_next m y =
               let d = u.done m y in
               let long = written_long v.done o after 0 n v.put in
               let i = entry_in in
@@ -447,8 +447,8 @@ module _ {s t index b items : List ℕ} {fig : List ℤ} {f : Translation} {w : 
                 rest =
                     append_assoc v.done (load_bytes f w s p (e - p - 4)) (encode_table (concat_map (joined_load f w) l))
                     ∙ (ap (λ (c : ℕ). v.done ++ (load_bytes f w s p c ++ encode_table (concat_map (joined_load f w) l))) (count_is e ee)
-                    ∙ (ap (λ (c : List ℕ). v.done ++ c) (sym (ap (λ (c : Entry). encode_table (concat_map (joined_load f w) (c ∷ l))) entry_is ∙ production_bytes f w s p kinds-are l)) ∙ rest-here));
+                    ∙ (ap (λ (c : List ℕ). v.done ++ c) (sym (ap (λ (c : Entry). encode_table (concat_map (joined_load f w) (c ∷ l))) entry_is ∙ production_bytes f w s p kinds_are l)) ∙ rest_here));
                 fits = sym test ∙ ap (λ (c : Bool). c && all (load_fits f w) l) d.0;
-                there = there-next;
+                there = there_next;
                 room = omega (arith, i.0, q, x, ee);
               })

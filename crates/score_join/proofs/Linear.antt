@@ -11,7 +11,7 @@ use borrow.Author.Tests.{eq-eqb, ne_eqb, eqb-true, eqb-false}
 use Rattle.format_fields.proofs.Truth.{by_test}
 use Rattle.format_language.specs.Language.{Language, arguments_of}
 use Rattle.tree_reader.specs.Code.{Code, node, token, argument, Codes, nil, cons}
-use Rattle.tree_reader.specs.Typing.{Uses, Typed, TypedAll, typed-node, typed-token, typed-argument, typed-nil, typed-cons}
+use Rattle.tree_reader.specs.Typing.{Uses, Typed, TypedAll, typed_node, typed_token, typed_argument, typed_nil, typed_cons}
 use Rattle.format_translation.specs.Running.{Clauses, Replacing, from_one, substitute, substitute_all, run, run_operand}
 use Rattle.format_translation.proofs.Running.{ByZero, ByZeroAll}
 use Rattle.score_tree.specs.Linear.{Loads, constant, used, form, form_all}
@@ -76,20 +76,20 @@ module _ (w : Loads) where
     mutual
       unfolding form form_all substitute from_one constant used
 
-      form-substitute : (c : Code) → ByZero c → form w (substitute (from_one r) c) 0 ≡ form w c 0 +ℤ form_all w (λ i. form w c (suc i)) s 0
-      form-substitute (token v) h = sym (ap (λ (z : ℤ). pos v +ℤ z) (no_factors s) ∙ +ℤ_idr (pos v))
-      form-substitute (argument zero j) h = sym (ap (λ (z : ℤ). pos 0 +ℤ z) (same_factors (λ i. used 0 (suc i)) (λ i. pos 0) (λ i. rw (ne_eqb 0 (suc i) (omega arith)) refl) s ∙ no_factors s))
-      form-substitute (argument (suc n) j) h = ap (λ (x : ℕ). form w (r n x) 0) h ∙ (ap (λ (x : Code). form w x 0) (same n) ∙ (pick n s ∙ sym (+ℤ_idl _)))
-      form-substitute (node k p t) h =
-          ap (λ (z : ℤ). w k p 0 +ℤ z) (formAll-substitute (λ i. w k p (suc i)) t h)
+      form_substitute : (c : Code) → ByZero c → form w (substitute (from_one r) c) 0 ≡ form w c 0 +ℤ form_all w (λ i. form w c (suc i)) s 0
+      form_substitute (token v) h = sym (ap (λ (z : ℤ). pos v +ℤ z) (no_factors s) ∙ +ℤ_idr (pos v))
+      form_substitute (argument zero j) h = sym (ap (λ (z : ℤ). pos 0 +ℤ z) (same_factors (λ i. used 0 (suc i)) (λ i. pos 0) (λ i. rw (ne_eqb 0 (suc i) (omega arith)) refl) s ∙ no_factors s))
+      form_substitute (argument (suc n) j) h = ap (λ (x : ℕ). form w (r n x) 0) h ∙ (ap (λ (x : Code). form w x 0) (same n) ∙ (pick n s ∙ sym (+ℤ_idl _)))
+      form_substitute (node k p t) h =
+          ap (λ (z : ℤ). w k p 0 +ℤ z) (form_all_substitute (λ i. w k p (suc i)) t h)
           ∙ (sym (+ℤ_assoc (w k p 0) (form_all w (λ i. w k p (suc i)) t 0) (form_all w (λ j. form_all w (λ i. w k p (suc i)) t (suc j)) s 0))
           ∙ ap (λ (z : ℤ). (w k p 0 +ℤ form_all w (λ i. w k p (suc i)) t 0) +ℤ z)
           (same_factors (λ j. form_all w (λ i. w k p (suc i)) t (suc j)) (λ j. pos 0 +ℤ form_all w (λ i. w k p (suc i)) t (suc j)) (λ j. sym (+ℤ_idl _)) s))
 
-      formAll-substitute : (g : ℕ → ℤ) (t : Codes) → ByZeroAll t → form_all w g (substitute_all (from_one r) t) 0 ≡ form_all w g t 0 +ℤ form_all w (λ j. form_all w g t (suc j)) s 0
-      formAll-substitute g nil h = sym (ap (λ (z : ℤ). pos 0 +ℤ z) (no_factors s))
-      formAll-substitute g (cons a t) h =
-          (λ i. (ap (λ (z : ℤ). g 0 *ℤ z) (form-substitute a h.0) ∙ times_sum (g 0) (form w a 0) (form_all w (λ j. form w a (suc j)) s 0)) i +ℤ formAll-substitute (λ j. g (suc j)) t h.1 i)
+      form_all_substitute : (g : ℕ → ℤ) (t : Codes) → ByZeroAll t → form_all w g (substitute_all (from_one r) t) 0 ≡ form_all w g t 0 +ℤ form_all w (λ j. form_all w g t (suc j)) s 0
+      form_all_substitute g nil h = sym (ap (λ (z : ℤ). pos 0 +ℤ z) (no_factors s))
+      form_all_substitute g (cons a t) h =
+          (λ i. (ap (λ (z : ℤ). g 0 *ℤ z) (form_substitute a h.0) ∙ times_sum (g 0) (form w a 0) (form_all w (λ j. form w a (suc j)) s 0)) i +ℤ form_all_substitute (λ j. g (suc j)) t h.1 i)
           ∙ (exchange (g 0 *ℤ form w a 0) (g 0 *ℤ form_all w (λ j. form w a (suc j)) s 0) (form_all w (λ j. g (suc j)) t 0) (form_all w (λ j. form_all w (λ m. g (suc m)) t (suc j)) s 0)
           ∙ ap (λ (z : ℤ). (g 0 *ℤ form w a 0 +ℤ form_all w (λ j. g (suc j)) t 0) +ℤ z)
           (ap (λ (z : ℤ). z +ℤ form_all w (λ j. form_all w (λ m. g (suc m)) t (suc j)) s 0) (sym (scale_factors (g 0) (λ j. form w a (suc j)) s))
@@ -113,13 +113,13 @@ module _ (l : Language) (f : Clauses) (v w : Loads)
   mutual
     unfolding form form_all run run_all constant
 
-    pub form-run : {given : Uses} {t : Code} {k : ℕ} → Typed l given t k → form v t 0 ≡ form w (run f 0 t) 0
-    form-run (typed-token e h) = refl
-    form-run (typed-argument e) = refl
-    form-run (typed-node {k = k} {p = p} {t = t} {ks = ks} e h) =
-        (λ i. same k p ks e 0 (omega arith) i +ℤ formAll-run h (λ j. v k p (suc j)) (λ j. form w (f k p 0) (suc j)) (λ j g. same k p ks e (suc j) (omega arith)) i)
-        ∙ sym (form-substitute w (run_all f t) (λ i by. run_operand f t i by) (λ i. operand_run f t i) (f k p 0) (by_zero k p ks e))
+    pub form_run : {given : Uses} {t : Code} {k : ℕ} → Typed l given t k → form v t 0 ≡ form w (run f 0 t) 0
+    form_run (typed_token e h) = refl
+    form_run (typed_argument e) = refl
+    form_run (typed_node {k = k} {p = p} {t = t} {ks = ks} e h) =
+        (λ i. same k p ks e 0 (omega arith) i +ℤ form_all_run h (λ j. v k p (suc j)) (λ j. form w (f k p 0) (suc j)) (λ j g. same k p ks e (suc j) (omega arith)) i)
+        ∙ sym (form_substitute w (run_all f t) (λ i by. run_operand f t i by) (λ i. operand_run f t i) (f k p 0) (by_zero k p ks e))
 
-    formAll-run : {given : Uses} {t : Codes} {ks : List ℕ} → TypedAll l given t ks → (g h : ℕ → ℤ) → ((i : ℕ) → i < length ks → g i ≡ h i) → form_all v g t 0 ≡ form_all w h (run_all f t) 0
-    formAll-run typed-nil g h e = refl
-    formAll-run (typed-cons {ks = ks} y ys) g h e = λ i. e 0 (omega arith) i *ℤ form-run y i +ℤ formAll-run ys (λ j. g (suc j)) (λ j. h (suc j)) (λ j q. e (suc j) (omega arith)) i
+    form_all_run : {given : Uses} {t : Codes} {ks : List ℕ} → TypedAll l given t ks → (g h : ℕ → ℤ) → ((i : ℕ) → i < length ks → g i ≡ h i) → form_all v g t 0 ≡ form_all w h (run_all f t) 0
+    form_all_run typed_nil g h e = refl
+    form_all_run (typed_cons {ks = ks} y ys) g h e = λ i. e 0 (omega arith) i *ℤ form_run y i +ℤ form_all_run ys (λ j. g (suc j)) (λ j. h (suc j)) (λ j q. e (suc j) (omega arith)) i

@@ -37,17 +37,17 @@ module _ (size x y : ℕ) (o : List ℕ) (pos : ℕ) (room : pos + 5 ≤ length 
     long : length q ≡ length o
     long = written_long _ (set o pos 0x24) q (pos + 1) (pos + 3) two ∙ first_long
 
-    pub head-third : pos + 3 < length q
-    head-third = omega (arith, long)
+    pub head_third : pos + 3 < length q
+    head_third = omega (arith, long)
 
-    pub head-fourth : pos + 4 < length (set q (pos + 3) x)
-    head-fourth = omega (arith, long, length-set q (pos + 3) x)
+    pub head_fourth : pos + 4 < length (set q (pos + 3) x)
+    head_fourth = omega (arith, long, length-set q (pos + 3) x)
 
     pub head_same : length (set (set q (pos + 3) x) (pos + 4) y) ≡ length o
     head_same = length-set (set q (pos + 3) x) (pos + 4) y ∙ (length-set q (pos + 3) x ∙ long)
 
-    pub head-put : Written (0x24 ∷ (two_bytes size ++ (x ∷ y ∷ []))) o (set (set q (pos + 3) x) (pos + 4) y) pos (pos + 5)
-    head-put =
+    pub head_put : Written (0x24 ∷ (two_bytes size ++ (x ∷ y ∷ []))) o (set (set q (pos + 3) x) (pos + 4) y) pos (pos + 5)
+    head_put =
         let e : pos + 4 ≡ suc (pos + 3) = omega arith in
         let left : pos + 3 + 2 ≤ length q = omega (arith, long) in
         let last : Written (x ∷ y ∷ []) q (set (set q (pos + 3) x) (pos + 4) y) (pos + 3) (pos + 5) = record {

@@ -36,10 +36,10 @@ use Rattle.format_translation.proofs.Cuts.{pieces_in, body_in_short}
 use Rattle.format_translation.proofs.Lookup.{mem_mapping}
 use Rattle.format_translation.proofs.Fitting.{refuse_value, uses_are, fit_carries}
 use Rattle.format_translation.proofs.Running.{ByZero}
-use Rattle.format_translation.proofs.Preserved.{Carries, kept_tree, typed-run}
+use Rattle.format_translation.proofs.Preserved.{Carries, kept_tree, typed_run}
 use Rattle.format_translation.specs.Inner.Parts.{source_in, target_in, body_in}
 use Rattle.format_translation.specs.Plain.{plain}
-use Rattle.format_translation.proofs.PlainUses.{use_zero, typed-zero}
+use Rattle.format_translation.proofs.PlainUses.{use_zero, typed_zero}
 use Rattle.run_table.specs.Inner.Table.{Checked}
 use Rattle.check_operations.proofs.Legal.{tree_done}
 use Rattle.run_table.proofs.Clauses as Clauses
@@ -52,7 +52,7 @@ use Rattle.score_tree.proofs.Loading.{loads_rise, figures_found}
 use Rattle.score_join.specs.Joined.{place_fits, places_of, load_fits, joined_load, joined_table, joined_of, join_bytes}
 use Rattle.score_join.specs.Laws.{JoinedIsTable, ScoresAgree}
 use Rattle.score_join.proofs.Joins.{figures_long, map_long, count_long}
-use Rattle.score_join.proofs.Linear.{form-run}
+use Rattle.score_join.proofs.Linear.{form_run}
 
 -- Figures written and read.
 figures_shift : (m a : ℕ) (s : List ℕ) (i : ℕ) → figures_from m (a ∷ s) (i + 1) ≡ figures_from m s i
@@ -172,11 +172,11 @@ tree_again l a k u t h e =
     let c : read tree l [] n k (write tree u) ≡ done u [] = rw (← append-nil (write tree u)) b in
     ⊎_elim
     (λ d. let z : deep ≡ done t [] = sym d ∙ r in let y : ◌≡◌ {A = ℕ} 0 1 = cc in absurd (omega arith))
-    (λ d. done-is (sym r ∙ (sym d ∙ c)))
+    (λ d. done_is (sym r ∙ (sym d ∙ c)))
     (more_levels tree l [] 64 n k (write tree u) (omega arith))
   where
-    done-is : {x y : Code} → done x [] ≡ done y [] → x ≡ y
-    done-is e = cc
+    done_is : {x y : Code} → done x [] ≡ done y [] → x ≡ y
+    done_is e = cc
 
 -- A score that was given.
 score_made : (w : Table) (t : Code) (x : ℤ) → score_of w t ≡ value x → x ≡ form (figure_of w) t 0
@@ -244,14 +244,14 @@ module _ (translation : List ℕ) (f : Translation) (ef : translation_of transla
 
   transform_typed : (t : Code) (k goal : ℕ) → Typed f.source [] t k → mapping_of f.body k 0 ≡ some goal → Typed f.target [] (transform f 0 t) (mapped f.body k 0)
   unfolding transform mapped
-  transform_typed t k goal h e = rw e (typed-run carries (kept_tree (mapping_of f.body)) 0 goal h e)
+  transform_typed t k goal h e = rw e (typed_run carries (kept_tree (mapping_of f.body)) 0 goal h e)
 
   -- The codes of number 0 use arguments by number 0.
   clauses_zero : plain f.body ≡ true → (k p : ℕ) (ks : List ℕ) → arguments_of f.source k p ≡ some ks → ByZero (clauses_of f k p 0)
   clauses_zero h k p ks e =
       let (goal, o) = (Clauses.fits accepted).maps k (result_in f.source k p ks (arguments_mem f.source k p ks e)) in
       let q = mem_mapping f.body (Clauses.body_rises accepted) k 0 goal o in
-      typed-zero (λ i j t u. use_zero f h k p i j t (rw (uses_are f k p ks e) u)) (carries.nodes k p 0 goal ks e q)
+      typed_zero (λ i j t u. use_zero f h k p i j t (rw (uses_are f k p ks e) u)) (carries.nodes k p 0 goal ks e q)
 
 pub scores_agree : ScoresAgree
 unfolding transform
@@ -268,7 +268,7 @@ scores_agree translation table joined source target bytes output room space root
     let u_same : b.tree_is ≡ transform f 0 r.tree_is =
     tree_again f.target (target_apart translation f ef) (mapped f.body root 0) (transform f 0 r.tree_is) b.tree_is (transform_typed translation f ef r.tree_is root r.maps.0 typed r.maps.1)
     (ap (tree_of f.target (mapped f.body root 0)) (sym r.is) ∙ b.is_tree) in
-    let main = form-run f.source (clauses_of f) (figure_of v) (figure_of m.from) (figures_are f (figure_of m.from) (source_rises translation f ef) m.fits) (clauses_zero translation f ef m.plain_body) typed in
+    let main = form_run f.source (clauses_of f) (figure_of v) (figure_of m.from) (figures_are f (figure_of m.from) (source_rises translation f ef) m.fits) (clauses_zero translation f ef m.plain_body) typed in
     a.is
     ∙ (ap (λ (q : Table). form (figure_of q) a.tree_is 0) v-same
     ∙ (ap (λ (q : Code). form (figure_of v) q 0) t_same

@@ -75,32 +75,32 @@ module _ (w : Loads) where
     rest_is a deep = refl
     rest_is a broken = refl
 
-    first-is : (ks : List ℕ) → ((r : List ℕ) → read_row reads ks r ≡ measured (loose_row w) (read_looses plans ks r)) → (o : Read Loose)
+    first_is : (ks : List ℕ) → ((r : List ℕ) → read_row reads ks r ≡ measured (loose_row w) (read_looses plans ks r)) → (o : Read Loose)
         → (and_then (measured (loose_spread w) o) λ a r. and_then (read_row reads ks r) λ t u. done (a ∷ t) u)
         ≡ measured (loose_row w) (and_then o λ a r. and_then (read_looses plans ks r) λ t u. done (cons a t) u)
-    first-is ks h (done a r) = ap (λ (o : Read (List Spread)). and_then o λ t u. done (loose_spread w a ∷ t) u) (h r) ∙ rest_is a (read_looses plans ks r)
-    first-is ks h deep = refl
-    first-is ks h broken = refl
+    first_is ks h (done a r) = ap (λ (o : Read (List Spread)). and_then o λ t u. done (loose_spread w a ∷ t) u) (h r) ∙ rest_is a (read_looses plans ks r)
+    first_is ks h deep = refl
+    first_is ks h broken = refl
 
     row_is : (ks s : List ℕ) → read_row reads ks s ≡ measured (loose_row w) (read_looses plans ks s)
     unfolding read_row read_looses loose_row
     row_is [] s = refl
-    row_is (k ∷ ks) s = ap (λ (o : Read Spread). and_then o λ a r. and_then (read_row reads ks r) λ t u. done (a ∷ t) u) (same k s) ∙ first-is ks (λ r. row_is ks r) (plans k s)
+    row_is (k ∷ ks) s = ap (λ (o : Read Spread). and_then o λ a r. and_then (read_row reads ks r) λ t u. done (a ∷ t) u) (same k s) ∙ first_is ks (λ r. row_is ks r) (plans k s)
 
-    operands-are : (k p : ℕ) (o : Option (List ℕ)) (s : List ℕ) → Walk.read_operands reads w k p o s ≡ measured (loose_spread w) (read_operands plans k p o s)
+    operands_are : (k p : ℕ) (o : Option (List ℕ)) (s : List ℕ) → Walk.read_operands reads w k p o s ≡ measured (loose_spread w) (read_operands plans k p o s)
     unfolding Walk.read_operands read_operands
-    operands-are k p none s = refl
-    operands-are k p (some ks) s = ap (λ (o : Read (List Spread)). and_then o λ t r. done (node_spread w k p t) r) (row_is ks s) ∙ go (read_looses plans ks s)
+    operands_are k p none s = refl
+    operands_are k p (some ks) s = ap (λ (o : Read (List Spread)). and_then o λ t r. done (node_spread w k p t) r) (row_is ks s) ∙ go (read_looses plans ks s)
       where
         go : (o : Read Looses) → (and_then (measured (loose_row w) o) λ t r. done (node_spread w k p t) r) ≡ measured (loose_spread w) (and_then o λ t r. done (node k p t) r)
         go (done t r) = ap (λ (x : Spread). done x r) (node_is k p t)
         go deep = refl
         go broken = refl
 
-    name-is : (l : Language) (k : ℕ) (s : List ℕ) → Walk.read_name reads l w k s ≡ measured (loose_spread w) (read_name plans l k s)
+    name_is : (l : Language) (k : ℕ) (s : List ℕ) → Walk.read_name reads l w k s ≡ measured (loose_spread w) (read_name plans l k s)
     unfolding Walk.read_name read_name
-    name-is l k [] = refl
-    name-is l k (p ∷ s) = operands-are k p (arguments_of l k p) s
+    name_is l k [] = refl
+    name_is l k (p ∷ s) = operands_are k p (arguments_of l k p) s
 
   class_is : (o : Option Range) (s : List ℕ) (named : Read Spread) (plan : Read Loose) → named ≡ measured (loose_spread w) plan
       → Walk.by_class 4 o s named ≡ measured (loose_spread w) (by_class o s plan)
@@ -114,4 +114,4 @@ unfolding read_spread read_loose
 loose_reads l w zero k s = class_is w (range_of l k) s deep deep refl
 loose_reads l w (suc n) k s =
     class_is w (range_of l k) s (Walk.read_name (read_spread 4 l w n) l w k s) (read_name (read_loose l n) l k s)
-    (name-is w (read_spread 4 l w n) (read_loose l n) (λ j r. loose_reads l w n j r) l k s)
+    (name_is w (read_spread 4 l w n) (read_loose l n) (λ j r. loose_reads l w n j r) l k s)

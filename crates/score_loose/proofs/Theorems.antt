@@ -17,7 +17,7 @@ use Rattle.format_language.specs.LanguageFile.{language_of}
 use Rattle.format_language.proofs.Codec.{language_good}
 use Rattle.tree_reader.specs.Code as Trees
 use Rattle.tree_reader.specs.Code.{Code, Codes, levels}
-use Rattle.tree_reader.specs.Typing.{Typed, TypedAll, typed-node, typed-token, typed-nil, typed-cons}
+use Rattle.tree_reader.specs.Typing.{Typed, TypedAll, typed_node, typed_token, typed_nil, typed_cons}
 use Rattle.tree_reader.specs.Syntax.{Read, done, deep, broken, read, write, tree}
 use Rattle.tree_reader.specs.Operations.{tree_of, whole_tree}
 use Rattle.tree_reader.proofs.Larger.{apart}
@@ -29,9 +29,9 @@ use Rattle.score_tree.specs.Operations.{score_of, score_bytes}
 use Rattle.score_loose.specs.Plans.{Loose, node, token, Looses, nil, cons, is_loose, read_loose}
 use Rattle.score_loose.specs.Ends.{End, low, high, end_by, value_at, end, end_all, both_within, all_within}
 use Rattle.score_loose.specs.Operations.{whole_plan, loose_of, Ends, ends, ends_of, loose_bytes}
-use Rattle.score_loose.specs.Laws.{Settles, settles-node, settles-token, SettlesAll, settles-nil, settles-cons, Choice, ChoicesLieBetween, EndsAreReached, loosened, loosened_all, SettledHasOneScore}
+use Rattle.score_loose.specs.Laws.{Settles, settles_node, settles_token, SettlesAll, settles_nil, settles_cons, Choice, ChoicesLieBetween, EndsAreReached, loosened, loosened_all, SettledHasOneScore}
 use Rattle.score_loose.proofs.Order.{Beyond, at_end, add_beyond, scale_beyond, between_mid}
-use Rattle.score_loose.proofs.Legal.{Legal, LegalAll, legal-node, legal-token, legal-nil, legal-cons, read_legal}
+use Rattle.score_loose.proofs.Legal.{Legal, LegalAll, legal_node, legal_token, legal_nil, legal_cons, read_legal}
 
 -- A value between two is beyond both ends.
 token_beyond : (e : End) (a b v : ℕ) → a ≤ v → v ≤ b → Beyond e (pos (value_at e a b)) (pos v)
@@ -43,13 +43,13 @@ mutual
 
   -- Every choice is beyond both ends.
   settled : {c : Code} {t : Loose} → Settles c t → (w : Loads) (e : End) → Beyond e (end e w t) (form w c 0)
-  settled (settles-node {k = k} {p = p} {t = cs} {u = ts} h) w e =
+  settled (settles_node {k = k} {p = p} {t = cs} {u = ts} h) w e =
       add_beyond e (w k p 0) (end_all e w (λ i. w k p (suc i)) ts) (w k p 0) (form_all w (λ i. w k p (suc i)) cs 0) (at_end e (w k p 0)) (settled_all h w (λ i. w k p (suc i)) e)
-  settled (settles-token {v = v} {a = a} {b = b} h k) w e = token_beyond e a b v h k
+  settled (settles_token {v = v} {a = a} {b = b} h k) w e = token_beyond e a b v h k
 
   settled_all : {c : Codes} {t : Looses} → SettlesAll c t → (w : Loads) (factor : ℕ → ℤ) (e : End) → Beyond e (end_all e w factor t) (form_all w factor c 0)
-  settled_all settles-nil w factor e = at_end e (pos 0)
-  settled_all (settles-cons {c = c} {a = a} {t = t} {u = u} h k) w factor e =
+  settled_all settles_nil w factor e = at_end e (pos 0)
+  settled_all (settles_cons {c = c} {a = a} {t = t} {u = u} h k) w factor e =
       add_beyond e (factor 0 *ℤ end (end_by (factor 0) e) w a) (end_all e w (λ i. factor (suc i)) u) (factor 0 *ℤ form w c 0) (form_all w (λ i. factor (suc i)) t 0)
       (scale_beyond e (factor 0) (end (end_by (factor 0) e) w a) (form w c 0) (settled h w (end_by (factor 0) e)))
       (settled_all k w (λ i. factor (suc i)) e)
@@ -59,16 +59,16 @@ mutual
 
   -- Where both ends are in the range at every production, so is every choice.
   settled_passes : {c : Code} {t : Loose} → Settles c t → (w : Loads) → both_within w t ≡ true → passes is_score w c 0 ≡ true
-  settled_passes (settles-node {k = k} {p = p} {t = cs} {u = ts} h) w q =
+  settled_passes (settles_node {k = k} {p = p} {t = cs} {u = ts} h) w q =
       let (all, ends) = and_both (all_within w ts) _ q in
       let (below, above) = and_both (is_score (end low w (node k p ts))) _ ends in
       both_and _ _ (settled_all_lem h w all)
-      (between_mid _ _ (end low w (node k p ts)) (form w (Trees.node k p cs) 0) (end high w (node k p ts)) below above (settled (settles-node h) w low) (settled (settles-node h) w high))
-  settled_passes (settles-token h k) w q = refl
+      (between_mid _ _ (end low w (node k p ts)) (form w (Trees.node k p cs) 0) (end high w (node k p ts)) below above (settled (settles_node h) w low) (settled (settles_node h) w high))
+  settled_passes (settles_token h k) w q = refl
 
   settled_all_lem : {c : Codes} {t : Looses} → SettlesAll c t → (w : Loads) → all_within w t ≡ true → passes_all is_score w c 0 ≡ true
-  settled_all_lem settles-nil w q = refl
-  settled_all_lem (settles-cons {a = a} {u = u} h k) w q =
+  settled_all_lem settles_nil w q = refl
+  settled_all_lem (settles_cons {a = a} {u = u} h k) w q =
       let (one, others) = and_both (both_within w a) (all_within w u) q in
       both_and _ _ (settled_passes h w one) (settled_all_lem k w others)
 
@@ -114,25 +114,25 @@ module _ (l : Language) (w : Loads) where
   mutual
     unfolding chosen
 
-    chosen-typed : {t : Loose} {k : ℕ} → Legal l t k → (e : End) → Typed l [] (chosen e w t) k
-    chosen-typed (legal-node {k = k} {p = p} q h) e = typed-node q (chosen-typed-all h (λ i. w k p (suc i)) e)
-    chosen-typed (legal-token {a = a} {b = b} {c = c} q h) e = typed-token q (value_legal e c a b h)
+    chosen_typed : {t : Loose} {k : ℕ} → Legal l t k → (e : End) → Typed l [] (chosen e w t) k
+    chosen_typed (legal_node {k = k} {p = p} q h) e = typed_node q (chosen_typed_all h (λ i. w k p (suc i)) e)
+    chosen_typed (legal_token {a = a} {b = b} {c = c} q h) e = typed_token q (value_legal e c a b h)
 
-    chosen-typed-all : {t : Looses} {ks : List ℕ} → LegalAll l t ks → (factor : ℕ → ℤ) (e : End) → TypedAll l [] (chosen_all e w factor t) ks
-    chosen-typed-all legal-nil factor e = typed-nil
-    chosen-typed-all (legal-cons h k) factor e = typed-cons (chosen-typed h (end_by (factor 0) e)) (chosen-typed-all k (λ i. factor (suc i)) e)
+    chosen_typed_all : {t : Looses} {ks : List ℕ} → LegalAll l t ks → (factor : ℕ → ℤ) (e : End) → TypedAll l [] (chosen_all e w factor t) ks
+    chosen_typed_all legal_nil factor e = typed_nil
+    chosen_typed_all (legal_cons h k) factor e = typed_cons (chosen_typed h (end_by (factor 0) e)) (chosen_typed_all k (λ i. factor (suc i)) e)
 
   mutual
     unfolding chosen
 
-    chosen-settles : {t : Loose} {k : ℕ} → Legal l t k → (e : End) → Settles (chosen e w t) t
-    chosen-settles (legal-node {k = k} {p = p} q h) e = settles-node (chosen-settles-all h (λ i. w k p (suc i)) e)
-    chosen-settles (legal-token {a = a} {b = b} {c = c} q h) e =
-        let o = value_between e a b (loose_parts c a b h).2 in settles-token o.0 o.1
+    chosen_settles : {t : Loose} {k : ℕ} → Legal l t k → (e : End) → Settles (chosen e w t) t
+    chosen_settles (legal_node {k = k} {p = p} q h) e = settles_node (chosen_settles_all h (λ i. w k p (suc i)) e)
+    chosen_settles (legal_token {a = a} {b = b} {c = c} q h) e =
+        let o = value_between e a b (loose_parts c a b h).2 in settles_token o.0 o.1
 
-    chosen-settles-all : {t : Looses} {ks : List ℕ} → LegalAll l t ks → (factor : ℕ → ℤ) (e : End) → SettlesAll (chosen_all e w factor t) t
-    chosen-settles-all legal-nil factor e = settles-nil
-    chosen-settles-all (legal-cons h k) factor e = settles-cons (chosen-settles h (end_by (factor 0) e)) (chosen-settles-all k (λ i. factor (suc i)) e)
+    chosen_settles_all : {t : Looses} {ks : List ℕ} → LegalAll l t ks → (factor : ℕ → ℤ) (e : End) → SettlesAll (chosen_all e w factor t) t
+    chosen_settles_all legal_nil factor e = settles_nil
+    chosen_settles_all (legal_cons h k) factor e = settles_cons (chosen_settles h (end_by (factor 0) e)) (chosen_settles_all k (λ i. factor (suc i)) e)
 
 -- What was read whole.
 plan_read : (o : Read Loose) (t : Loose) → whole_plan o ≡ value t → o ≡ done t []
@@ -210,7 +210,7 @@ module _ (language bytes table : List ℕ) (root : ℕ) (l : Language) (t : Loos
   reached : (x : End) → (c : Code) × Choice l root t c × (score_bytes language root (write tree c) table ≡ value (end x (figure_of there.0) t))
   reached x =
       let w = figure_of there.0 in
-      let o : Choice l root t (chosen x w t) = record { legal = chosen-typed l w legal.0 x; settles = chosen-settles l w legal.0 x } in
+      let o : Choice l root t (chosen x w t) = record { legal = chosen_typed l w legal.0 x; settles = chosen_settles l w legal.0 x } in
       (chosen x w t, o, choice_scored (chosen x w t) o ∙ ap value (chosen_scores x w t))
 
   pub reached_low : (c : Code) × Choice l root t c × (score_bytes language root (write tree c) table ≡ value e.least)

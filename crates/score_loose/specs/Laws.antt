@@ -16,12 +16,12 @@ use Rattle.score_loose.specs.Operations.{Ends, loose_of, loose_bytes}
 -- A tree settles a loose plan: the same productions, and each token between the least and the greatest.
 mutual
   pub data Settles : Code → Loose → Type 0 where
-    settles-node : {k p : ℕ} {t : Codes} {u : Looses} → SettlesAll t u → Settles (Trees.node k p t) (node k p u)
-    settles-token : {v a b : ℕ} → a ≤ v → v ≤ b → Settles (Trees.token v) (token a b)
+    settles_node : {k p : ℕ} {t : Codes} {u : Looses} → SettlesAll t u → Settles (Trees.node k p t) (node k p u)
+    settles_token : {v a b : ℕ} → a ≤ v → v ≤ b → Settles (Trees.token v) (token a b)
 
   pub data SettlesAll : Codes → Looses → Type 0 where
-    settles-nil : SettlesAll Trees.nil nil
-    settles-cons : {c : Code} {a : Loose} {t : Codes} {u : Looses} → Settles c a → SettlesAll t u
+    settles_nil : SettlesAll Trees.nil nil
+    settles_cons : {c : Code} {a : Loose} {t : Codes} {u : Looses} → Settles c a → SettlesAll t u
         → SettlesAll (Trees.cons c t) (cons a u)
 
 -- A choice is a legal tree that settles the plan: each of its tokens is a legal value of its class, by low, high and step.

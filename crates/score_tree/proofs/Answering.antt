@@ -148,20 +148,20 @@ module _ (width : ℕ) (l : Language) (w : Table) (k : ℕ) (b : List ℕ) (r : 
       answers_same (rw f refl) a
 
   module _ (u v : ℤ) (e : ℕ) (q : r ≡ Between u v e) where
-    pub kind-more : (e ≡ length b → ⊥) → Answers (refused Why.IllegalTree) o x y → Answers (ends_on width l w k b) o x y
-    kind-more m a = let (g, f, h) = says_between b (read_spread width l (figure_of w) 64 k b) r er u v e q in more g.plan e g.is g.inside m a
+    pub kind_more : (e ≡ length b → ⊥) → Answers (refused Why.IllegalTree) o x y → Answers (ends_on width l w k b) o x y
+    kind_more m a = let (g, f, h) = says_between b (read_spread width l (figure_of w) 64 k b) r er u v e q in more g.plan e g.is g.inside m a
 
     -- u' and v' are what the machine reads of the ends
-    pub kind-ends : e ≡ length b → (u' v' : ℤ) → u' ≡ u → v' ≡ v → Answers (value (spread u' v' true)) o x y → Answers (ends_on width l w k b) o x y
-    kind-ends n u' v' eu ev a =
+    pub kind_ends : e ≡ length b → (u' v' : ℤ) → u' ≡ u → v' ≡ v → Answers (value (spread u' v' true)) o x y → Answers (ends_on width l w k b) o x y
+    kind_ends n u' v' eu ev a =
         let (g, f, h) = says_between b (read_spread width l (figure_of w) 64 k b) r er u v e q in
         let same : spread u' v' true ≡ g.plan = λ i. spread ((eu ∙ sym f) i) ((ev ∙ sym h) i) (sym g.fits i) in
         let given : whole_spread (done g.plan []) ≡ value g.plan = rw g.fits refl in
         answers_same (ap value same ∙ (sym given ∙ whole width l w k b g.plan e g.is n)) a
 
   module _ (e : ℕ) (q : r ≡ Outside e) where
-    pub kind-out-more : (e ≡ length b → ⊥) → Answers (refused Why.IllegalTree) o x y → Answers (ends_on width l w k b) o x y
-    kind-out-more m a = let g = says_outside b (read_spread width l (figure_of w) 64 k b) r er e q in more g.plan e g.is g.inside m a
+    pub kind_out_more : (e ≡ length b → ⊥) → Answers (refused Why.IllegalTree) o x y → Answers (ends_on width l w k b) o x y
+    kind_out_more m a = let g = says_outside b (read_spread width l (figure_of w) 64 k b) r er e q in more g.plan e g.is g.inside m a
 
     pub kind_out : e ≡ length b → Answers (refused Why.ScoreOutOfRange) o x y → Answers (ends_on width l w k b) o x y
     kind_out n a =
@@ -215,25 +215,25 @@ module _ (s : List ℕ) (root : ℕ) (t : List ℕ) where
         there : (w : Table) × (loads_of a.language (fields_of t) ≡ some w)
         there = some_is (loads_of a.language (fields_of t)) (sym ex ∙ h)
 
-        on-table : ground_of s root t ≡ refuse_if (not (is_in a.language root)) Why.UnknownRoot (value (ground a.language there.0))
+        on_table : ground_of s root t ≡ refuse_if (not (is_in a.language root)) Why.UnknownRoot (value (ground a.language there.0))
         unfolding ground_of table_of
-        on-table = rw (a.is, there.1) refl
+        on_table = rw (a.is, there.1) refl
 
         module _ {y : Bool} (ey : y ≡ is_in a.language root) where
-          pub root-out : y ≡ false → Refused Why.UnknownRoot ≡ checked (ground_of s root t)
-          root-out j = rw (on-table, sym ey ∙ j) refl
+          pub root_out : y ≡ false → Refused Why.UnknownRoot ≡ checked (ground_of s root t)
+          root_out j = rw (on_table, sym ey ∙ j) refl
 
           module _ (j : y ≡ true) where
-            ground-is : ground_of s root t ≡ value (ground a.language there.0)
-            ground-is = rw (on-table, sym ey ∙ j) refl
+            ground_is : ground_of s root t ≡ value (ground a.language there.0)
+            ground_is = rw (on_table, sym ey ∙ j) refl
 
-            pub ground-accepted : Accepted 0 ≡ checked (ground_of s root t)
-            ground-accepted = rw ground-is refl
+            pub ground_accepted : Accepted 0 ≡ checked (ground_of s root t)
+            ground_accepted = rw ground_is refl
 
-            pub ground-held : (fig : List ℤ) → ((l : Language) (w : Table) → entries_of s ≡ some l → loads_of l (fields_of t) ≡ some w → Kept fig s w)
+            pub ground_held : (fig : List ℤ) → ((l : Language) (w : Table) → entries_of s ≡ some l → loads_of l (fields_of t) ≡ some w → Kept fig s w)
                 → (g : Ground) → ground_of s root t ≡ value g → Prepared s fig root g
-            ground-held fig f g e =
-                let d : value (ground a.language there.0) ≡ value g = sym ground-is ∙ e in
+            ground_held fig f g e =
+                let d : value (ground a.language there.0) ≡ value g = sym ground_is ∙ e in
                 let same : ground a.language there.0 ≡ g = cc in
                 rw (← same) (record {
                   held = record { entries = a.entries; apart = good.apart; short = a.short; kept = f a.language there.0 a.entries there.1 };

@@ -83,32 +83,32 @@ module _ (w : Loads) where
     rest_is a deep = refl
     rest_is a broken = refl
 
-    first-is : (ks : List ℕ) → ((r : List ℕ) → read_row reads ks r ≡ measured (fixed_row w) (read_all codes ks r)) → (o : Read Code)
+    first_is : (ks : List ℕ) → ((r : List ℕ) → read_row reads ks r ≡ measured (fixed_row w) (read_all codes ks r)) → (o : Read Code)
         → (and_then (measured (fixed_spread w) o) λ a r. and_then (read_row reads ks r) λ t u. done (a ∷ t) u)
         ≡ measured (fixed_row w) (and_then o λ a r. and_then (read_all codes ks r) λ t u. done (cons a t) u)
-    first-is ks h (done a r) = ap (λ (o : Read (List Spread)). and_then o λ t u. done (fixed_spread w a ∷ t) u) (h r) ∙ rest_is a (read_all codes ks r)
-    first-is ks h deep = refl
-    first-is ks h broken = refl
+    first_is ks h (done a r) = ap (λ (o : Read (List Spread)). and_then o λ t u. done (fixed_spread w a ∷ t) u) (h r) ∙ rest_is a (read_all codes ks r)
+    first_is ks h deep = refl
+    first_is ks h broken = refl
 
     row_is : (ks s : List ℕ) → read_row reads ks s ≡ measured (fixed_row w) (read_all codes ks s)
     unfolding read_row read_all fixed_row
     row_is [] s = refl
-    row_is (k ∷ ks) s = ap (λ (o : Read Spread). and_then o λ a r. and_then (read_row reads ks r) λ t u. done (a ∷ t) u) (same k s) ∙ first-is ks (λ r. row_is ks r) (codes k s)
+    row_is (k ∷ ks) s = ap (λ (o : Read Spread). and_then o λ a r. and_then (read_row reads ks r) λ t u. done (a ∷ t) u) (same k s) ∙ first_is ks (λ r. row_is ks r) (codes k s)
 
-    operands-are : (k p : ℕ) (o : Option (List ℕ)) (s : List ℕ) → read_operands reads w k p o s ≡ measured (fixed_spread w) (Trees.read_operands codes k p o s)
+    operands_are : (k p : ℕ) (o : Option (List ℕ)) (s : List ℕ) → read_operands reads w k p o s ≡ measured (fixed_spread w) (Trees.read_operands codes k p o s)
     unfolding read_operands Trees.read_operands
-    operands-are k p none s = refl
-    operands-are k p (some ks) s = ap (λ (o : Read (List Spread)). and_then o λ t r. done (node_spread w k p t) r) (row_is ks s) ∙ go (read_all codes ks s)
+    operands_are k p none s = refl
+    operands_are k p (some ks) s = ap (λ (o : Read (List Spread)). and_then o λ t r. done (node_spread w k p t) r) (row_is ks s) ∙ go (read_all codes ks s)
       where
         go : (o : Read Codes) → (and_then (measured (fixed_row w) o) λ t r. done (node_spread w k p t) r) ≡ measured (fixed_spread w) (and_then o λ t r. done (node k p t) r)
         go (done t r) = ap (λ (x : Spread). done x r) (node_is k p t)
         go deep = refl
         go broken = refl
 
-    name-is : (l : Language) (k : ℕ) (s : List ℕ) → read_name reads l w k s ≡ measured (fixed_spread w) (read_node codes l k s)
+    name_is : (l : Language) (k : ℕ) (s : List ℕ) → read_name reads l w k s ≡ measured (fixed_spread w) (read_node codes l k s)
     unfolding read_name read_node
-    name-is l k [] = refl
-    name-is l k (p ∷ s) = operands-are k p (arguments_of l k p) s
+    name_is l k [] = refl
+    name_is l k (p ∷ s) = operands_are k p (arguments_of l k p) s
 
 module _ (l : Language) (w : Loads) where
   values_are : (c : Range) (s : List ℕ) → read_values 2 c s ≡ measured (fixed_spread w) (read_token (some c) s)
@@ -127,7 +127,7 @@ module _ (l : Language) (w : Loads) where
   level_is n h k s (some c) e = class_is (suc n) k s c e
   level_is n h k s none e =
       name_read 2 l w k n s e
-      ∙ (name-is w (read_spread 2 l w n) (read tree l [] n) h l k s ∙ sym (ap (measured (fixed_spread w)) (read_node_lem l k s n e)))
+      ∙ (name_is w (read_spread 2 l w n) (read tree l [] n) h l k s ∙ sym (ap (measured (fixed_spread w)) (read_node_lem l k s n e)))
 
   -- What the walk reads in tokens of two bytes.
   pub fixed_reads : (n k : ℕ) (s : List ℕ) → read_spread 2 l w n k s ≡ measured (fixed_spread w) (read tree l [] n k s)

@@ -106,14 +106,14 @@ module _ (b : List ℕ) (at : ℕ) where
   argument_form t j = rw (ne_eqb _ _ t) refl
 
   module _ (t : get_or b at 0 ≡ 2 → ⊥) (n : ℕ) (en : n ≡ get_or b (at + 1) 0) {factor : ℤ} {count : ℕ} {before : List ℤ} where
-    used-as : {after : List ℤ} → Added (used n) factor count before after → AddsLeaf b at factor count before after (at + 2)
-    used-as h = record {
+    used_as : {after : List ℤ} → Added (used n) factor count before after → AddsLeaf b at factor count before after (at + 2)
+    used_as h = record {
       end = rw (ne_eqb _ _ t) refl;
       added = added_as (λ j i. ap (λ (m : ℕ). used m j) en ∙ argument_form t j) h;
     }
 
-    pub leaf-past : count ≤ n → AddsLeaf b at factor count before before (at + 2)
-    leaf-past h = used-as (added_none _ factor before count (λ j l. used_other n j (λ e. absurd (omega arith))))
+    pub leaf_past : count ≤ n → AddsLeaf b at factor count before before (at + 2)
+    leaf_past h = used_as (added_none _ factor before count (λ j l. used_other n j (λ e. absurd (omega arith))))
 
   -- x is the sum that the code puts; s, f and z are what the machine reads of the sum before, the factor and what is added
   module _ {factor : ℤ} {count : ℕ} {before : List ℤ} (a : Asked factor count before) {s f z x : ℤ} (ef : f ≡ factor) (ex : x ≡ s +ℤ f *ℤ z) where
@@ -137,7 +137,7 @@ module _ (b : List ℕ) (at : ℕ) where
         let m = a.few in
         let d = a.long in
         let one = used_here n (rw en (k.counted t)) in
-        used-as t n en (added_one _ factor before count n x h (omega arith) (used_other n) (rw one (omega arith)) (sum_is n (used n n) es (ez ∙ sym one)))
+        used_as t n en (added_one _ factor before count n x h (omega arith) (used_other n) (rw one (omega arith)) (sum_is n (used n n) es (ez ∙ sym one)))
 
 -- Where the loop of `add_row` stands: the places before j fit two bytes, and are added.
 pub record Adding (row : List ℤ) (factor : ℤ) (before after : List ℤ) (j : ℕ) : Type 0 where

@@ -18,7 +18,7 @@ use Rattle.format_fields.specs.Inner.Places.{field_end, is_whole, contents_at, f
 use Rattle.format_fields.proofs.Truth.{by_test, none_some, some_inj, and_both, Mem, any_mem, mem_append, append_cases, mem_first}
 use Rattle.format_fields.proofs.Keyed.{From, Rising, is_rising, from_weaken, from_agree}
 use Rattle.format_fields.proofs.Places.{places_done, places_next, every_here, every_after}
-use Rattle.format_fields.proofs.Split.{front, fields_done, fields_next, fields-cut, contents_length, contents_pair, contents_first, contents_second}
+use Rattle.format_fields.proofs.Split.{front, fields_done, fields_next, fields_cut, contents_length, contents_pair, contents_first, contents_second}
 use Rattle.format_language.specs.Language.{Language, Entry, Range, class, production, entry_key, production_key}
 use Rattle.format_language.specs.LanguageFile.{entries_of}
 use Rattle.format_language.specs.Inner.Entries.{entry_at, entry_whole, IsClass, IsProduction, RisingEntries}
@@ -114,10 +114,10 @@ module _ (s : List ℕ) (p : ℕ) (c : IsProduction s p) (t : List ℕ) (q : ℕ
         ∙ (loads_before _ _ kinds l (field_at t q) (fields_of (drop (field_end t q) t))
         ∙ ap (λ (o : Option Load). before o (loads_of l (fields_of (drop (field_end t q) t)))) (load_is w)))
 
-    loads-load : is_load s p t q ≡ true → (e : ℕ) → WholeEnd t q e
+    loads_load : is_load s p t q ≡ true → (e : ℕ) → WholeEnd t q e
         → loads_of (entry_at s p ∷ l) (fields_of (drop q t)) ≡ before (some given) (loads_of l (fields_of (drop e t)))
     unfolding is_load
-    loads-load y e w =
+    loads_load y e w =
         let i = w.past in
         let f = w.fits in
         let whole = (and_both (is_whole t q) _ y).0 in
@@ -125,9 +125,9 @@ module _ (s : List ℕ) (p : ℕ) (c : IsProduction s p) (t : List ℕ) (q : ℕ
         ∙ (ap (λ (b : Bool). before (cond b (some given) none) (loads_of l (fields_of (drop (field_end t q) t)))) y
         ∙ ap (λ (x : ℕ). before (some given) (loads_of l (fields_of (drop x t)))) (sym w.is))
 
-    loads-none : is_load s p t q ≡ false → loads_of (entry_at s p ∷ l) (fields_of (drop q t)) ≡ none
+    loads_none : is_load s p t q ≡ false → loads_of (entry_at s p ∷ l) (fields_of (drop q t)) ≡ none
     unfolding is_whole loads_in
-    loads-none y =
+    loads_none y =
         by_test (leb (length t) q)
         (λ h.
         ap (λ (a : Entry). loads_of (a ∷ l) (fields_of (drop q t))) (production_is s p c)
@@ -136,7 +136,7 @@ module _ (s : List ℕ) (p : ℕ) (c : IsProduction s p) (t : List ℕ) (q : ℕ
         (λ k.
         turn (leb-false _ _ h) (leb-true _ _ k) k
         ∙ ap (λ (b : Bool). before (cond b (some given) none) (loads_of l (fields_of (drop (field_end t q) t)))) y)
-        (λ k. ap (loads_of (entry_at s p ∷ l)) (fields-cut t q (leb-false _ _ h) (leb-false _ _ k))))
+        (λ k. ap (loads_of (entry_at s p ∷ l)) (fields_cut t q (leb-false _ _ h) (leb-false _ _ k))))
 
 -- The loads in front, and those that follow.
 unfoldable pub joined : Table → Option Table → Option Table
@@ -228,9 +228,9 @@ module _ (s t : List ℕ) (fig : List ℤ) (p q : ℕ) (v : Loading s t fig p q)
   })
 
   module _ (tag : get_or s p 0 ≡ 0x12) (end : ℕ) (ends : LoadEnd s p t q end) where
-    pub load-broken : end ≡ 0 → loads_of (map (entry_at s) (places s)) (fields_of t) ≡ none
+    pub load_broken : end ≡ 0 → loads_of (map (entry_at s) (places s)) (fields_of t) ≡ none
     unfolding joined
-    load-broken z = passed_rest ∙ ap (joined v.loads) (loads-none s p (is_production tag) t q _ (ends.none z))
+    load_broken z = passed_rest ∙ ap (joined v.loads) (loads_none s p (is_production tag) t q _ (ends.none z))
 
     module _ (some_end : end ≡ 0 → ⊥) where
       loaded : is_load s p t q ≡ true
@@ -239,66 +239,66 @@ module _ (s t : List ℕ) (fig : List ℤ) (p q : ℕ) (v : Loading s t fig p q)
       ended : WholeEnd t q end
       ended = (ends.some some_end).1
 
-      load-size : pair_at t (q + 1) ≡ 2 * pair_at s (p + 1)
+      load_size : pair_at t (q + 1) ≡ 2 * pair_at s (p + 1)
       unfolding is_load
-      load-size =
+      load_size =
           let a = (and_both (is_whole t q) _ loaded).1 in
           let b = (and_both (eqb (get_or t q 0) 0x24) _ a).1 in
           eqb-true _ _ (and_both (eqb (pair_at t (q + 1)) (2 * pair_at s (p + 1))) _ b).0
 
-      load-whole : is_whole t q ≡ true
+      load_whole : is_whole t q ≡ true
       unfolding is_load
-      load-whole = (and_both (is_whole t q) _ loaded).0
+      load_whole = (and_both (is_whole t q) _ loaded).0
 
       -- What `put_figures` asks.
-      pub load-room : (q + 5 + 2 * (field_end s p - p - 4) ≤ length t) × (q + 3 ≤ length t) × (end ≤ length t)
+      pub load_room : (q + 5 + 2 * (field_end s p - p - 4) ≤ length t) × (q + 3 ≤ length t) × (end ≤ length t)
       unfolding field_end
-      load-room =
+      load_room =
           let w = ended in
           let i = w.is in
           let f = w.fits in
-          let n = load-size in
+          let n = load_size in
           let c = is_production tag in
           let two = c.two in
           (omega arith, omega arith, f)
 
       module _ (e : ℕ) (ee : e ≡ field_end s p) (more : List ℤ) (u : Put t (q + 5) fig more (p + 4) (e - p - 4)) where
-        abbrev new-load : Load
-        new-load = given s p (is_production tag) t q
+        abbrev new_load : Load
+        new_load = given s p (is_production tag) t q
 
-        kept : (y : ℕ) → field_end s y ≤ p → Loaded fig s v.loads y → Loaded more s (v.loads ++ (new-load ∷ [])) y
+        kept : (y : ℕ) → field_end s y ≤ p → Loaded fig s v.loads y → Loaded more s (v.loads ++ (new_load ∷ [])) y
         unfolding field_end
         kept y h l = record {
           figures = l.figures;
-          there = mem_append _ v.loads (new-load ∷ []) (inl l.there);
+          there = mem_append _ v.loads (new_load ∷ []) (inl l.there);
           is = λ j g. u.below (y + 4 + j) (omega arith) ∙ l.is j g;
         }
 
-        new : Loaded more s (v.loads ++ (new-load ∷ [])) p
+        new : Loaded more s (v.loads ++ (new_load ∷ [])) p
         unfolding field_end
         new = record {
           figures = figures s p (is_production tag) t q;
-          there = mem_append _ v.loads (new-load ∷ []) (inr (inl refl));
+          there = mem_append _ v.loads (new_load ∷ []) (inr (inl refl));
           is = λ j g.
               let k = kinds_long s p (is_production tag) t q in
-              let n = load-size in
+              let n = load_size in
               u.put j (omega (arith, ee))
-              ∙ (sym (contents_figure t q j load-whole (omega arith))
+              ∙ (sym (contents_figure t q j load_whole (omega arith))
               ∙ sym (figures_get _ (contents_at t q) 2 j (omega (arith, k))));
         }
 
-        pub load-next : Loading s t more e end
-        load-next =
+        pub load_next : Loading s t more e end
+        load_next =
             let i = entry_in in
             rw ee (record {
               passed = v.passed ++ (p ∷ []);
-              loads = v.loads ++ (new-load ∷ []);
+              loads = v.loads ++ (new_load ∷ []);
               split = passed_next;
               within = ended.fits;
               rest =
                   passed_rest
-                  ∙ (ap (joined v.loads) (loads-load s p (is_production tag) t q (map (entry_at s) (places_from s (field_end s p))) loaded end ended)
-                  ∙ joined_next v.loads new-load _);
+                  ∙ (ap (joined v.loads) (loads_load s p (is_production tag) t q (map (entry_at s) (places_from s (field_end s p))) loaded end ended)
+                  ∙ joined_next v.loads new_load _);
               right = λ y m. ⊎_elim
                   (λ z. let r = v.right y z in (omega (arith, r.0, i.0), λ g. kept y r.0 (r.1 g)))
                   (λ z. ⊎_elim (λ d. (rw d (omega arith), λ g. rw d new)) (λ d. absurd d) z)
@@ -367,19 +367,19 @@ module _ (s t : List ℕ) where
     all_rest : loads_of (map (entry_at s) (places s)) (fields_of t) ≡ joined v.loads (loads_of [] (fields_of (drop q t)))
     all_rest = v.rest ∙ ap (λ (l : List ℕ). joined v.loads (loads_of (map (entry_at s) l) (fields_of (drop q t)))) (places_done s p past)
 
-    no-loads : (o : Option (List Field)) (g : Field) → loads_of [] (before (some g) o) ≡ none
+    no_loads : (o : Option (List Field)) (g : Field) → loads_of [] (before (some g) o) ≡ none
     unfolding loads_in
-    no-loads none g = refl
-    no-loads (some fs) g = refl
+    no_loads none g = refl
+    no_loads (some fs) g = refl
 
-    more-fields : q < length t → loads_of (map (entry_at s) (places s)) (fields_of t) ≡ none
+    more_fields : q < length t → loads_of (map (entry_at s) (places s)) (fields_of t) ≡ none
     unfolding joined
-    more-fields h =
+    more_fields h =
         all_rest
         ∙ ap (joined v.loads)
         (by_test (leb (field_end t q) (length t))
-        (λ k. ap (loads_of []) (fields_next t q h (leb-true _ _ k)) ∙ no-loads (fields_of (drop (field_end t q) t)) (field_at t q))
-        (λ k. ap (loads_of []) (fields-cut t q h (leb-false _ _ k))))
+        (λ k. ap (loads_of []) (fields_next t q h (leb-true _ _ k)) ∙ no_loads (fields_of (drop (field_end t q) t)) (field_at t q))
+        (λ k. ap (loads_of []) (fields_cut t q h (leb-false _ _ k))))
 
     no_more : q ≡ length t → loads_of (map (entry_at s) (places s)) (fields_of t) ≡ some v.loads
     unfolding joined loads_in
@@ -394,7 +394,7 @@ module _ (s t : List ℕ) where
         ends : eqb q (length t) ≡ is_some (loads_of (map (entry_at s) (places s)) (fields_of t))
         ends = by_test (eqb q (length t))
             (λ h. h ∙ sym (ap is_some (no_more (eqb-true _ _ h))))
-            (λ h. let m = v.within in let n = eqb-false q (length t) h in h ∙ sym (ap is_some (more-fields (omega (arith, m, n)))))
+            (λ h. let m = v.within in let n = eqb-false q (length t) h in h ∙ sym (ap is_some (more_fields (omega (arith, m, n)))))
 
     pub end_kept : RisingEntries s → (l : Language) (w : Table) → entries_of s ≡ some l → loads_of l (fields_of t) ≡ some w → Kept fig s w
     end_kept r l w e f =
@@ -411,10 +411,10 @@ module _ (s t : List ℕ) where
               let (y, n, z) = any_mem (eqb x) (places s) there in
               let o : Mem x v.passed = rw (← m) (rw (eqb-true x y z) n) in
               let d = (v.right x o).1 tag in
-              d.is i g ∙ sym (figures_found w (rise-of l (fields_of t) w rises f) (get_or s (x + 3) 0) (get_or s (x + 4) 0) d.figures (rw same at d.there) i);
+              d.is i g ∙ sym (figures_found w (rise_of l (fields_of t) w rises f) (get_or s (x + 3) 0) (get_or s (x + 4) 0) d.figures (rw same at d.there) i);
         })
-        (λ h. let n = eqb-false q (length t) h in none_some (sym (more-fields (omega (arith, v.within, n))) ∙ (ap (λ (k : Language). loads_of k (fields_of t)) held.entries ∙ f)))
+        (λ h. let n = eqb-false q (length t) h in none_some (sym (more_fields (omega (arith, v.within, n))) ∙ (ap (λ (k : Language). loads_of k (fields_of t)) held.entries ∙ f)))
       where
-        rise-of : (l : Language) (o : Option (List Field)) (w : Table) → From entry_key 0 l → loads_of l o ≡ some w → From load_key 0 w
-        rise-of l none w h e = none_some e
-        rise-of l (some fs) w h e = loads_rise l fs w 0 h e
+        rise_of : (l : Language) (o : Option (List Field)) (w : Table) → From entry_key 0 l → loads_of l o ≡ some w → From load_key 0 w
+        rise_of l none w h e = none_some e
+        rise_of l (some fs) w h e = loads_rise l fs w 0 h e

@@ -165,24 +165,24 @@ module _ (c : Range) (b : List ℕ) (at : ℕ) where
         ap (read_loosely c) four
         ∙ (ap (λ (n : ℕ). pair_spread c n (pair_at b (at + 2)) (drop (at + 4) b)) (sym ex) ∙ ap (λ (n : ℕ). pair_spread c x n (drop (at + 4) b)) (sym ey))
 
-    not-loose : (in_range c x && (in_range c y && leb x y)) ≡ false → Says b (read_loosely c (drop at b)) Broken
+    not_loose : (in_range c x && (in_range c y && leb x y)) ≡ false → Says b (read_loosely c (drop at b)) Broken
     unfolding pair_spread
-    not-loose q = let d : read_loosely c (drop at b) ≡ broken = pair_is ∙ rw q refl in rw d refl
+    not_loose q = let d : read_loosely c (drop at b) ≡ broken = pair_is ∙ rw q refl in rw d refl
 
     pub pair_first : in_range c x ≡ false → Says b (read_loosely c (drop at b)) Broken
-    pair_first p = not-loose (rw p refl)
+    pair_first p = not_loose (rw p refl)
 
     module _ (p : in_range c x ≡ true) where
       pub pair_second : in_range c y ≡ false → Says b (read_loosely c (drop at b)) Broken
-      pair_second q = not-loose (rw (p, q) refl)
+      pair_second q = not_loose (rw (p, q) refl)
 
       module _ (q : in_range c y ≡ true) where
-        pub pair-order : y < x → Says b (read_loosely c (drop at b)) Broken
-        pair-order o = not-loose (rw (p, q) (lt-leb x y o))
+        pub pair_order : y < x → Says b (read_loosely c (drop at b)) Broken
+        pair_order o = not_loose (rw (p, q) (lt-leb x y o))
 
-        pub pair-good : x ≤ y → (u v : ℤ) → u ≡ pos x → v ≡ pos y → Says b (read_loosely c (drop at b)) (Between u v (at + 4))
+        pub pair_good : x ≤ y → (u v : ℤ) → u ≡ pos x → v ≡ pos y → Says b (read_loosely c (drop at b)) (Between u v (at + 4))
         unfolding pair_spread bounds_of
-        pair-good o u v eu ev =
+        pair_good o u v eu ev =
             let t : (in_range c x && (in_range c y && leb x y)) ≡ true = both_and _ _ p (both_and _ _ q (le-leb x y o)) in
             let d : read_loosely c (drop at b) ≡ done (spread (pos x) (pos y) true) (drop (at + 4) b) = pair_is ∙ rw t refl in
             rw d (at + 4, omega arith, refl, rw (eu, ev) refl)
@@ -242,9 +242,9 @@ module _ {s index : List ℕ} {fig : List ℤ} {place : ℕ} {b : List ℕ} {at 
   factor_at i h = let d : place + 4 + i ≡ place + 3 + suc i = omega arith in ap (λ (m : ℕ). get_or fig m (pos 0)) d ∙ a.production.figures_are (suc i) (omega arith)
 
   module _ (reads : ℕ → List ℕ → Read Spread) (number : ℕ) (sized : number + 2 ≡ pair_at s place) where
-    pub going-begin : Going reads s place b at ks number (replicate 8 (pos 0)) (replicate 8 (pos 0)) true 0 at
+    pub going_begin : Going reads s place b at ks number (replicate 8 (pos 0)) (replicate 8 (pos 0)) true 0 at
     unfolding row_within
-    going-begin =
+    going_begin =
         let z : place + 4 + 0 ≡ place + 4 = omega arith in
         let c = number_is number sized in
         record {
@@ -290,26 +290,26 @@ module _ {s index : List ℕ} {fig : List ℤ} {place : ℕ} {b : List ℕ} {at 
           same_read : reads (get_or s q 0) (drop to b) ≡ reads ahead.kind (drop to b)
           same_read = ap (λ (n : ℕ). reads n (drop to b)) (ap (λ (n : ℕ). get_or s n 0) eq ∙ kind_here.0)
 
-          ahead-reads : read_row reads ks (drop at b) ≡ (and_then (read_row reads (ahead.kind ∷ ahead.others) (drop to b)) λ t u. done (v.row ++ t) u)
-          ahead-reads = v.reading ∙ ap (λ (x : List ℕ). and_then (read_row reads x (drop to b)) λ t u. done (v.row ++ t) u) ahead.is
+          ahead_reads : read_row reads ks (drop at b) ≡ (and_then (read_row reads (ahead.kind ∷ ahead.others) (drop to b)) λ t u. done (v.row ++ t) u)
+          ahead_reads = v.reading ∙ ap (λ (x : List ℕ). and_then (read_row reads x (drop to b)) λ t u. done (v.row ++ t) u) ahead.is
 
-          pub going-deep : r ≡ Deep → Says b (read_operands reads w k p (some ks) (drop at b)) Deep
+          pub going_deep : r ≡ Deep → Says b (read_operands reads w k p (some ks) (drop at b)) Deep
           unfolding read_operands
-          going-deep e =
+          going_deep e =
               let o : reads ahead.kind (drop to b) ≡ deep = sym same_read ∙ says_deep b (reads (get_or s q 0) (drop to b)) r er e in
-              let d : read_row reads ks (drop at b) ≡ deep = ahead-reads ∙ behind_deep reads v.row ahead.kind ahead.others (drop to b) o in
+              let d : read_row reads ks (drop at b) ≡ deep = ahead_reads ∙ behind_deep reads v.row ahead.kind ahead.others (drop to b) o in
               rw d refl
 
-          pub going-broken : r ≡ Broken → Says b (read_operands reads w k p (some ks) (drop at b)) Broken
+          pub going_broken : r ≡ Broken → Says b (read_operands reads w k p (some ks) (drop at b)) Broken
           unfolding read_operands
-          going-broken e =
+          going_broken e =
               let o : reads ahead.kind (drop to b) ≡ broken = sym same_read ∙ says_broken b (reads (get_or s q 0) (drop to b)) r er e in
-              let d : read_row reads ks (drop at b) ≡ broken = ahead-reads ∙ behind_broken reads v.row ahead.kind ahead.others (drop to b) o in
+              let d : read_row reads ks (drop at b) ≡ broken = ahead_reads ∙ behind_broken reads v.row ahead.kind ahead.others (drop to b) o in
               rw d refl
 
           -- The kinds that are left.
-          others-known : KindsAt s (place + 4 + (i + 1)) ahead.others
-          others-known =
+          others_known : KindsAt s (place + 4 + (i + 1)) ahead.others
+          others_known =
               let d = v.known.inside in
               let m : length v.kinds ≡ suc (length ahead.others) = ap length ahead.is in
               record {
@@ -321,27 +321,27 @@ module _ {s index : List ℕ} {fig : List ℤ} {place : ℕ} {b : List ℕ} {at 
                     (ap (λ (m' : ℕ). get_or s m' 0) (sym at') ∙ (x.0 ∙ same), rw (← same) x.1);
               }
 
-          others-rest : i + 1 + length ahead.others ≡ number
-          others-rest = let c = v.rest in let m : length v.kinds ≡ suc (length ahead.others) = ap length ahead.is in omega arith
+          others_rest : i + 1 + length ahead.others ≡ number
+          others_rest = let c = v.rest in let m : length v.kinds ≡ suc (length ahead.others) = ap length ahead.is in omega arith
 
-          next-reads : (t : Spread) (e : ℕ) → reads (get_or s q 0) (drop to b) ≡ done t (drop e b)
+          next_reads : (t : Spread) (e : ℕ) → reads (get_or s q 0) (drop to b) ≡ done t (drop e b)
               → read_row reads ks (drop at b) ≡ (and_then (read_row reads ahead.others (drop e b)) λ x u. done (snoc v.row t ++ x) u)
-          next-reads t e d = ahead-reads ∙ behind_done reads v.row ahead.kind ahead.others (drop to b) t (drop e b) (sym same_read ∙ d)
+          next_reads t e d = ahead_reads ∙ behind_done reads v.row ahead.kind ahead.others (drop to b) t (drop e b) (sym same_read ∙ d)
 
           -- An operand that is out of the range.
-          pub going-outside : (e : ℕ) → r ≡ Outside e → Going reads s place b at ks number least greatest false (i + 1) e
-          going-outside e d =
+          pub going_outside : (e : ℕ) → r ≡ Outside e → Going reads s place b at ks number least greatest false (i + 1) e
+          going_outside e d =
               let m = says_outside b (reads (get_or s q 0) (drop to b)) r er e d in
               let t = m.plan in
               record {
                 row = snoc v.row t;
                 kinds = ahead.others;
                 many = let c = v.many in omega (arith, length_snoc v.row t);
-                known = others-known;
-                rest = others-rest;
+                known = others_known;
+                rest = others_rest;
                 few = v.few;
                 inside = m.inside;
-                reading = next-reads t e m.is;
+                reading = next_reads t e m.is;
                 fits = sym (within_snoc v.row t ∙ none_of (row_within v.row) t.within m.fits);
                 held = held_skip v.held t m.fits;
               }
@@ -361,11 +361,11 @@ module _ {s index : List ℕ} {fig : List ℤ} {place : ℕ} {b : List ℕ} {at 
                 row = snoc v.row t;
                 kinds = ahead.others;
                 many = let c = v.many in omega (arith, length_snoc v.row t);
-                known = others-known;
-                rest = others-rest;
+                known = others_known;
+                rest = others_rest;
                 few = v.few;
                 inside = m.inside;
-                reading = next-reads t e m.is;
+                reading = next_reads t e m.is;
                 fits = v.fits ∙ sym (within_snoc v.row t ∙ all_of (row_within v.row) t.within m.fits);
                 held = held_next v.held t i row_in.2 v.many x' y' (ex ∙ sym lo) (ey ∙ sym hi) (rw ex near.0) (rw ey near.1);
               }
@@ -384,9 +384,9 @@ module _ {s index : List ℕ} {fig : List ℤ} {place : ℕ} {b : List ℕ} {at 
             v.reading ∙ (ap (λ (x : List ℕ). and_then (read_row reads x (drop to b)) λ t u. done (v.row ++ t) u) z ∙ behind_none reads v.row (drop to b)) in
             rw d refl
 
-        pub going-out : within ≡ false → Says b (read_operands reads w k p (some ks) (drop at b)) (Outside to)
+        pub going_out : within ≡ false → Says b (read_operands reads w k p (some ks) (drop at b)) (Outside to)
         unfolding bounds_of node_spread
-        going-out q = let f : row_within v.row ≡ false = sym v.fits ∙ q in rw all_read (to, v.inside, refl, rw f refl)
+        going_out q = let f : row_within v.row ≡ false = sym v.fits ∙ q in rw all_read (to, v.inside, refl, rw f refl)
 
         -- The sums by the ends that are kept, from the first factor on, are those of the row.
         module _ (q : within ≡ true) (first : ℕ) (ef : first ≡ place + 4) where
@@ -415,8 +415,8 @@ module _ {s index : List ℕ} {fig : List ℤ} {place : ℕ} {b : List ℕ} {at 
               ap (weighed fig first greatest least 0) every
               ∙ weighed_row (λ x. x.greatest) (λ x. x.least) fig first greatest least v.row 0 (λ n. w k p (suc n)) factors (λ j g. ((kept j g).1, (kept j g).0))
 
-          constant-is : get_or fig (first - 1) (pos 0) ≡ w k p 0
-          constant-is =
+          constant_is : get_or fig (first - 1) (pos 0) ≡ w k p 0
+          constant_is =
               let z : first - 1 ≡ place + 3 + 0 = omega arith in
               ap (λ (m : ℕ). get_or fig m (pos 0)) z ∙ a.production.figures_are 0 (omega arith)
 
@@ -424,7 +424,7 @@ module _ {s index : List ℕ} {fig : List ℤ} {place : ℕ} {b : List ℕ} {at 
               → r ≡ tested_at (get_or fig (first - 1) (pos 0) +ℤ weighed fig first least greatest 0 number) (get_or fig (first - 1) (pos 0) +ℤ weighed fig first greatest least 0 number) to
               → Says b (read_operands reads w k p (some ks) (drop at b)) r
           unfolding bounds_of node_spread tested_at
-          going_end r er = rw all_read (to, v.inside, refl, rw (constant-is, low_is, high_is) at er ∙ rw fits_all refl)
+          going_end r er = rw all_read (to, v.inside, refl, rw (constant_is, low_is, high_is) at er ∙ rw fits_all refl)
 
 -- ends_at
 production_from : {s : List ℕ} {fig : List ℤ} {w : Loads} {k p : ℕ} {ks : List ℕ} {n m : ℕ} → n ≡ m → ProductionAt s fig m w k p ks → ProductionAt s fig n w k p ks
@@ -482,9 +482,9 @@ module _ (width : ℕ) {s index : List ℕ} {fig : List ℤ} {l : Language} {w :
     no_class : range_of l k ≡ none
     no_class = range_is ∙ no_range s class none_here
 
-    pub deep-said : (n : ℕ) → n ≡ 0 → Says b (read_spread width l w n k (drop at b)) Deep
-    deep-said zero e = let d : read_spread width l w 0 k (drop at b) ≡ deep = past_read width l w k (drop at b) no_class in rw d refl
-    deep-said (suc n) e = absurd (omega arith)
+    pub deep_said : (n : ℕ) → n ≡ 0 → Says b (read_spread width l w n k (drop at b)) Deep
+    deep_said zero e = let d : read_spread width l w 0 k (drop at b) ≡ deep = past_read width l w k (drop at b) no_class in rw d refl
+    deep_said (suc n) e = absurd (omega arith)
 
     named : (n : ℕ) → (n ≡ 0 → ⊥) → read_spread width l w n k (drop at b) ≡ read_name (read_spread width l w (n - 1)) l w k (drop at b)
     named zero h = absurd (h refl)
@@ -493,9 +493,9 @@ module _ (width : ℕ) {s index : List ℕ} {fig : List ℤ} {l : Language} {w :
         name_read width l w k n (drop at b) no_class ∙ ap (λ (m : ℕ). read_name (read_spread width l w m) l w k (drop at b)) z
 
     module _ (n : ℕ) (some_left : n ≡ 0 → ⊥) where
-      pub end-said : length b ≤ at → Says b (read_spread width l w n k (drop at b)) Broken
+      pub end_said : length b ≤ at → Says b (read_spread width l w n k (drop at b)) Broken
       unfolding read_name
-      end-said h =
+      end_said h =
           let d : read_name (read_spread width l w (n - 1)) l w k (drop at b) ≡ broken = ap (read_name (read_spread width l w (n - 1)) l w k) (drop_of_length-le b h) in
           rw (named n some_left ∙ d) refl
 
@@ -514,9 +514,9 @@ module _ (width : ℕ) {s index : List ℕ} {fig : List ℤ} {l : Language} {w :
         known : arguments_of l k p ≡ arguments_before s place
         known = world.indexed.arguments k p kind few ∙ ap (arguments_before s) (sym place_is)
 
-        pub unknown-said : place ≡ 0 → Says b (read_spread width l w n k (drop at b)) Broken
+        pub unknown_said : place ≡ 0 → Says b (read_spread width l w n k (drop at b)) Broken
         unfolding read_operands
-        unknown-said z =
+        unknown_said z =
             let d : read_spread width l w n k (drop at b) ≡ broken = read_is ∙ ap (λ (o : Option (List ℕ)). read_operands (read_spread width l w (n - 1)) w k p o (drop (at + 1) b)) (known ∙ no_arguments s place z) in
             rw d refl
 
@@ -524,13 +524,13 @@ module _ (width : ℕ) {s index : List ℕ} {fig : List ℤ} {l : Language} {w :
           found : (ks : List ℕ) × (arguments_before s place ≡ some ks)
           found = some_arguments s place (omega (arith, there))
 
-          pub kinds-of : List ℕ
-          kinds-of = found.0
+          pub kinds_of : List ℕ
+          kinds_of = found.0
 
-          pub node-asked : RowAsks s index fig place b (at + 1) l w k p kinds-of
-          unfolding kinds-of
-          node-asked = record { world = world; production = production_from place_is (production_at world k p found.0 kind few (known ∙ found.1)); inside = omega arith }
+          pub node_asked : RowAsks s index fig place b (at + 1) l w k p kinds_of
+          unfolding kinds_of
+          node_asked = record { world = world; production = production_from place_is (production_at world k p found.0 kind few (known ∙ found.1)); inside = omega arith }
 
-          pub node-said : (r : Bounds) → Says b (read_operands (read_spread width l w (n - 1)) w k p (some kinds-of) (drop (at + 1) b)) r → Says b (read_spread width l w n k (drop at b)) r
-          unfolding kinds-of
-          node-said r q = rw (read_is ∙ ap (λ (o : Option (List ℕ)). read_operands (read_spread width l w (n - 1)) w k p o (drop (at + 1) b)) (known ∙ found.1)) q
+          pub node_said : (r : Bounds) → Says b (read_operands (read_spread width l w (n - 1)) w k p (some kinds_of) (drop (at + 1) b)) r → Says b (read_spread width l w n k (drop at b)) r
+          unfolding kinds_of
+          node_said r q = rw (read_is ∙ ap (λ (o : Option (List ℕ)). read_operands (read_spread width l w (n - 1)) w k p o (drop (at + 1) b)) (known ∙ found.1)) q

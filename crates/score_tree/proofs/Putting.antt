@@ -59,38 +59,38 @@ module _ (s : List ℕ) (p : ℕ) (t : List ℕ) (q : ℕ) where
     size : end - q - 3 ≡ pair_at t (q + 1)
     size = size_of t q end there.is
 
-    pub load-in : (q + 3 ≤ end) × (end ≤ length t)
-    load-in = (there.past, there.fits)
+    pub load_in : (q + 3 ≤ end) × (end ≤ length t)
+    load_in = (there.past, there.fits)
 
-    pub load-tag : (get_or t q 0 ≡ 0x24 → ⊥) → LoadEnd s p t q 0
+    pub load_tag : (get_or t q 0 ≡ 0x24 → ⊥) → LoadEnd s p t q 0
     unfolding is_load
-    load-tag h = no_load (rw (end_whole t q end there, ne_eqb _ _ h))
+    load_tag h = no_load (rw (end_whole t q end there, ne_eqb _ _ h))
 
     module _ (tag : get_or t q 0 ≡ 0x24) where
-      pub load-size : (end - q - 3 ≡ 2 * (e - p - 3) → ⊥) → LoadEnd s p t q 0
+      pub load_size : (end - q - 3 ≡ 2 * (e - p - 3) → ⊥) → LoadEnd s p t q 0
       unfolding is_load
-      load-size h =
+      load_size h =
           let n : pair_at t (q + 1) ≡ 2 * pair_at s (p + 1) → ⊥ = λ y. h (omega (arith, size, size_of s p e ee)) in
           no_load (rw (end_whole t q end there, eq-eqb _ _ tag, ne_eqb _ _ n))
 
       module _ (sized : end - q - 3 ≡ 2 * (e - p - 3)) where
-        is-size : pair_at t (q + 1) ≡ 2 * pair_at s (p + 1)
-        is-size = omega (arith, size, size_of s p e ee)
+        is_size : pair_at t (q + 1) ≡ 2 * pair_at s (p + 1)
+        is_size = omega (arith, size, size_of s p e ee)
 
         pub load_long : p + 5 ≤ e → q + 7 ≤ length t
-        load_long h = let i = load-in in omega arith
+        load_long h = let i = load_in in omega arith
 
-        pub load-result : (get_or t (q + 3) 0 ≡ get_or s (p + 3) 0 → ⊥) → LoadEnd s p t q 0
+        pub load_result : (get_or t (q + 3) 0 ≡ get_or s (p + 3) 0 → ⊥) → LoadEnd s p t q 0
         unfolding is_load
-        load-result h = no_load (rw (end_whole t q end there, eq-eqb _ _ tag, eq-eqb _ _ is-size, ne_eqb _ _ h))
+        load_result h = no_load (rw (end_whole t q end there, eq-eqb _ _ tag, eq-eqb _ _ is_size, ne_eqb _ _ h))
 
-        pub load-name : get_or t (q + 3) 0 ≡ get_or s (p + 3) 0 → (get_or t (q + 4) 0 ≡ get_or s (p + 4) 0 → ⊥) → LoadEnd s p t q 0
+        pub load_name : get_or t (q + 3) 0 ≡ get_or s (p + 3) 0 → (get_or t (q + 4) 0 ≡ get_or s (p + 4) 0 → ⊥) → LoadEnd s p t q 0
         unfolding is_load
-        load-name r h = no_load (rw (end_whole t q end there, eq-eqb _ _ tag, eq-eqb _ _ is-size, eq-eqb _ _ r, ne_eqb _ _ h))
+        load_name r h = no_load (rw (end_whole t q end there, eq-eqb _ _ tag, eq-eqb _ _ is_size, eq-eqb _ _ r, ne_eqb _ _ h))
 
         pub load_is : get_or t (q + 3) 0 ≡ get_or s (p + 3) 0 → get_or t (q + 4) 0 ≡ get_or s (p + 4) 0 → LoadEnd s p t q end
         unfolding is_load
         load_is r n = record {
           none = λ y. absurd (z y);
-          some = λ y. (rw (end_whole t q end there, eq-eqb _ _ tag, eq-eqb _ _ is-size, eq-eqb _ _ r, eq-eqb _ _ n), there);
+          some = λ y. (rw (end_whole t q end there, eq-eqb _ _ tag, eq-eqb _ _ is_size, eq-eqb _ _ r, eq-eqb _ _ n), there);
         }

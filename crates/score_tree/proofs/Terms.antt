@@ -15,7 +15,7 @@ use Rattle.format_fields.specs.Inner.Places.{field_end}
 use Rattle.format_fields.proofs.Truth.{by_test, none_some, some_inj}
 use Rattle.format_language.specs.Language.{Language, arguments_of, production_key}
 use Rattle.tree_reader.specs.Code.{Code, node, token, argument, Codes, levels, levels_all}
-use Rattle.tree_reader.specs.Typing.{Uses, kind_at, Typed, TypedAll, typed-node, typed-token, typed-argument}
+use Rattle.tree_reader.specs.Typing.{Uses, kind_at, Typed, TypedAll, typed_node, typed_token, typed_argument}
 use Rattle.tree_reader.specs.Syntax.{write}
 use Rattle.tree_reader.specs.declared.node.Syntax.TheVariants as Syntaxes
 use Rattle.tree_reader.specs.Inner.Positions.{KindsIn}
@@ -68,8 +68,8 @@ pub record NodeIs (b : List ℕ) (at : ℕ) (l : Language) (given : Uses) (u : C
 module _ (b : List ℕ) (at : ℕ) (l : Language) (given : Uses) where
   leaf_of : (w : Loads) → Plain given → {u : Code} {k : ℕ} → Typed l given u k → Stands b at (bytes_of u) → (get_or b at 0 ≡ 1 → ⊥) → LeafIs b at w u
   unfolding leaf_form form passes write
-  leaf_of w plain (typed-node e h) st y = let a = stands_head b at 1 _ st in absurd (y a.1)
-  leaf_of w plain (typed-token {v = v} {k = k} e h) st y =
+  leaf_of w plain (typed_node e h) st y = let a = stands_head b at 1 _ st in absurd (y a.1)
+  leaf_of w plain (typed_token {v = v} {k = k} e h) st y =
       let a = stands_head b at 2 (v / 256 ∷ v % 256 ∷ []) st in
       record {
         long = rw a.1 refl;
@@ -77,8 +77,8 @@ module _ (b : List ℕ) (at : ℕ) (l : Language) (given : Uses) where
         passed = λ j. refl;
         counted = λ n. absurd (n a.1);
       }
-  leaf_of w plain (typed-argument {i = n} {j = suc m} {k = k} e) st y = absurd (omega (arith, plain n (suc m) k e))
-  leaf_of w plain (typed-argument {i = n} {j = zero} e) st y =
+  leaf_of w plain (typed_argument {i = n} {j = suc m} {k = k} e) st y = absurd (omega (arith, plain n (suc m) k e))
+  leaf_of w plain (typed_argument {i = n} {j = zero} e) st y =
       let a = stands_head b at 3 (n ∷ []) st in
       let c = stands_head b (at + 1) n [] a.2 in
       record {
@@ -90,7 +90,7 @@ module _ (b : List ℕ) (at : ℕ) (l : Language) (given : Uses) where
 
   pub node_of : {u : Code} {k : ℕ} → Typed l given u k → Stands b at (bytes_of u) → get_or b at 0 ≡ 1 → NodeIs b at l given u k
   unfolding write levels
-  node_of (typed-node {k = k} {p = p} {t = ts} {ks = ks} e h) st y =
+  node_of (typed_node {k = k} {p = p} {t = ts} {ks = ks} e h) st y =
       let a = stands_head b at 1 (p ∷ all_bytes ts) st in
       let c = stands_head b (at + 1) p (all_bytes ts) a.2 in
       let z : at + 1 + 1 ≡ at + 2 = omega arith in
@@ -107,11 +107,11 @@ module _ (b : List ℕ) (at : ℕ) (l : Language) (given : Uses) where
         long = omega arith;
         deep = refl;
       }
-  node_of (typed-token {v = v} {k = k} e h) st y =
+  node_of (typed_token {v = v} {k = k} e h) st y =
       let a = stands_head b at 2 (v / 256 ∷ v % 256 ∷ []) st in absurd (omega (arith, a.1))
-  node_of (typed-argument {i = n} {j = zero} e) st y =
+  node_of (typed_argument {i = n} {j = zero} e) st y =
       let a = stands_head b at 3 (n ∷ []) st in absurd (omega (arith, a.1))
-  node_of (typed-argument {i = n} {j = suc m} e) st y =
+  node_of (typed_argument {i = n} {j = suc m} e) st y =
       let a = stands_head b at 4 (n ∷ suc m ∷ []) st in absurd (omega (arith, a.1))
 
 -- The kinds of a production by its place.
@@ -207,8 +207,8 @@ module _ {s index : List ℕ} {fig : List ℤ} {b : List ℕ} {k at left : ℕ} 
     abbrev ns : NodeIs b at l given u k
     ns = node_of b at l given a.typed a.stands y
 
-    pub node-left : 0 < left
-    node-left = let d = ns.deep in let n = a.levels in omega arith
+    pub node_left : 0 < left
+    node_left = let d = ns.deep in let n = a.levels in omega arith
 
     pub name_in : at + 2 ≤ length b
     name_in = ns.inside
@@ -221,17 +221,17 @@ module _ {s index : List ℕ} {fig : List ℤ} {b : List ℕ} {k at left : ℕ} 
       at_place : place ≡ get_or index (production_key k ns.name) 0
       at_place = ep ∙ (ap (λ (i : ℕ). get_or index (production_key i n) 0) eh ∙ ap (λ (i : ℕ). get_or index (production_key k i) 0) same)
 
-      pub node-asked : NodeAsks s index fig place b (at + 2) (left - 1) l given w k ns.name ns.operands ns.kinds
-      node-asked =
+      pub node_asked : NodeAsks s index fig place b (at + 2) (left - 1) l given w k ns.name ns.operands ns.kinds
+      node_asked =
           let few : ns.name < 256 = rw same at small in
           let p = production_at a.world k ns.name ns.kinds a.kind few ns.known in
           let d = ns.deep in
           let v = a.levels in
           record { world = a.world; plain = a.plain; production = rw at_place p; typed = ns.typed; stands = ns.stands; levels = omega arith }
 
-      pub node-adds : {f factor : ℤ} {count : ℕ} {before after : List ℤ} {r : Formed} → f ≡ factor
+      pub node_adds : {f factor : ℤ} {count : ℕ} {before after : List ℤ} {r : Formed} → f ≡ factor
           → Adds w (node k ns.name ns.operands) f count before after (at + 2 + length (all_bytes ns.operands)) r
           → Adds w u factor count before after (at + length (bytes_of u)) r
-      node-adds ef h =
+      node_adds ef h =
           let z : at + 2 + length (all_bytes ns.operands) ≡ at + length (bytes_of u) = omega (arith, ns.long) in
           adds_as ns.is ef z h

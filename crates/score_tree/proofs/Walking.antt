@@ -15,7 +15,7 @@ use Rattle.format_fields.specs.Fields.{pair_at}
 use Rattle.format_fields.proofs.Truth.{by_test}
 use Rattle.format_language.specs.Language.{Language}
 use Rattle.tree_reader.specs.Code.{Code, node, Codes, nil, cons, levels, levels_all}
-use Rattle.tree_reader.specs.Typing.{Uses, Typed, TypedAll, typed-nil, typed-cons}
+use Rattle.tree_reader.specs.Typing.{Uses, Typed, TypedAll, typed_nil, typed_cons}
 use Rattle.tree_reader.specs.Syntax.{write_all}
 use Rattle.run_table.specs.Inner.Stands.{Stands}
 use Rattle.run_table.proofs.Standing.{stands_both}
@@ -37,8 +37,8 @@ weigh w fig q (cons a t) j = get_or fig q (pos 0) *ℤ form w a j +ℤ weigh w f
 weigh_is : {l : Language} {given : Uses} {ts : Codes} {ks : List ℕ} → TypedAll l given ts ks → (w : Loads) (fig : List ℤ) (g : ℕ → ℤ) (q j : ℕ)
     → ((i : ℕ) → i < length ks → get_or fig (q + i) (pos 0) ≡ g i) → weigh w fig q ts j ≡ form_all w g ts j
 unfolding weigh form_all
-weigh_is typed-nil w fig g q j h = refl
-weigh_is (typed-cons {a = a} {t = t} {ks = ks} y ys) w fig g q j h =
+weigh_is typed_nil w fig g q j h = refl
+weigh_is (typed_cons {a = a} {t = t} {ks = ks} y ys) w fig g q j h =
     let z : q ≡ q + 0 = omega arith in
     let e : get_or fig q (pos 0) ≡ g 0 = ap (λ (n : ℕ). get_or fig n (pos 0)) z ∙ h 0 (omega arith) in
     let more : weigh w fig (q + 1) t j ≡ form_all w (λ i. g (suc i)) t j =
@@ -89,13 +89,13 @@ record First (l : Language) (given : Uses) (cs : Codes) (ks : List ℕ) : Type 0
   others : TypedAll l given codes kinds
 
 first_of : {l : Language} {given : Uses} {cs : Codes} {ks : List ℕ} → TypedAll l given cs ks → 0 < length ks → First l given cs ks
-first_of typed-nil h = absurd (omega arith)
-first_of (typed-cons {a = a} {k = k} {t = t} {ks = ks} y ys) h =
+first_of typed_nil h = absurd (omega arith)
+first_of (typed_cons {a = a} {k = k} {t = t} {ks = ks} y ys) h =
     record { code = a; kind = k; codes = t; kinds = ks; is_codes = refl; is_kinds = refl; typed = y; others = ys }
 
 none_left : {l : Language} {given : Uses} {cs : Codes} {ks : List ℕ} → TypedAll l given cs ks → length ks ≡ 0 → cs ≡ nil
-none_left typed-nil h = refl
-none_left (typed-cons y ys) h = absurd (omega arith)
+none_left typed_nil h = refl
+none_left (typed_cons y ys) h = absurd (omega arith)
 
 -- A place that does not fit.
 pub adds_outside : {w : Loads} {u : Code} {factor : ℤ} {count : ℕ} {before after : List ℤ} {end : ℕ} → ((j : ℕ) × (j < count) × (passes is_figure w u j ≡ false))
@@ -157,8 +157,8 @@ module _ {s index : List ℕ} {fig : List ℤ} {place : ℕ} {b : List ℕ} {at 
   walk_begin count stop q es eq z f ez ef = rw (es, eq) (begun count (pair_at s place) refl z f ez ef)
 
   module _ {stop end count : ℕ} {row : List ℤ} {q to : ℕ} (v : Walking s fig b l given w (node k p ts) ts stop end left count row q to) where
-    pub row-asked : {factor : ℤ} {sum : List ℤ} → Asked factor count sum → (f : ℤ) → nat_abs f ≤ 32768 → Asked f count row
-    row-asked c f h = record { long = v.long; some = c.some; few = c.few; small = h; room = λ j. let n = v.near j in omega arith }
+    pub row_asked : {factor : ℤ} {sum : List ℤ} → Asked factor count sum → (f : ℤ) → nat_abs f ≤ 32768 → Asked f count row
+    row_asked c f h = record { long = v.long; some = c.some; few = c.few; small = h; room = λ j. let n = v.near j in omega arith }
 
     module _ (h : q < stop) where
       ahead : First l given v.codes v.kinds
@@ -194,16 +194,16 @@ module _ {s index : List ℕ} {fig : List ℤ} {place : ℕ} {b : List ℕ} {at 
       pub operand : Code
       operand = ahead.code
 
-      pub operand-asks : TermAsks s index fig b (get_or s q 0) to left l given w operand
+      pub operand_asks : TermAsks s index fig b (get_or s q 0) to left l given w operand
       unfolding operand
-      operand-asks =
+      operand_asks =
           let g = here in
           rw g.0 (record { world = a.world; plain = a.plain; typed = ahead.typed; kind = g.1; stands = both.0; levels = deep.0 })
 
       module _ {f : ℤ} {after : List ℤ} {r : Formed} (d : Adds w operand f count row after (to + length (bytes_of operand)) r) where
-        pub walk-outside : r ≡ Outside → (j : ℕ) × (j < count) × (passes is_figure w (node k p ts) j ≡ false)
+        pub walk_outside : r ≡ Outside → (j : ℕ) × (j < count) × (passes is_figure w (node k p ts) j ≡ false)
         unfolding passes passes_all operand
-        walk-outside y =
+        walk_outside y =
             let (j, i, o) = d.outside y in
             let g : passes_all is_figure w v.codes j ≡ false = ap (λ (c : Codes). passes_all is_figure w c j) ahead.is_codes ∙ rw o refl in
             (j, i, rw (v.pass j i ∙ g) refl)
@@ -283,9 +283,9 @@ module _ {s index : List ℕ} {fig : List ℤ} {place : ℕ} {b : List ℕ} {at 
 
       -- f is what the machine reads of the factor
       module _ {f : ℤ} {before after : List ℤ} {r : Bool} (d : AddsRow row f count before after r) where
-        pub walk-wide : r ≡ false → (j : ℕ) × (j < count) × (passes is_figure w (node k p ts) j ≡ false)
+        pub walk_wide : r ≡ false → (j : ℕ) × (j < count) × (passes is_figure w (node k p ts) j ≡ false)
         unfolding passes
-        walk-wide y =
+        walk_wide y =
             let (j, i, o) = d.outside y in
             let e : is_figure (form w (node k p ts) j) ≡ false = rw (← finished j i) o in
             (j, i, rw (passed j i, e) refl)

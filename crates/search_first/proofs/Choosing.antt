@@ -29,15 +29,15 @@ module _ (l : Language) (f : Clauses) (n k : ℕ) (g : Goal) where
       go (no d) (no e) = gap.none q n s (omega arith) i w
 
   module _ (named : Named l) (t : Code) (plain : range_of l k ≡ none) (h : First l f (suc n) k g t) where
-    pub choose-here : (name r : ℕ) → NoneBelow l f n k g name → NeedsNamed l f n k name (suc name) g r → r ≤ n → name < 256 → (s : Codes) × (t ≡ node k name s) × (name < 256)
-    choose-here name r below q i few =
+    pub choose_here : (name r : ℕ) → NoneBelow l f n k g name → NeedsNamed l f n k name (suc name) g r → r ≤ n → name < 256 → (s : Codes) × (t ≡ node k name s) × (name < 256)
+    choose_here name r below q i few =
         let z = q.finds i in
         let e : z.0 ≡ name = omega (arith, z.1, z.2) in
         let w : Fits l f (suc n) k g (node k name z.3) = rw e at (fits_more {n = suc r} {m = suc n} (omega arith) z.4) in
         let y = first-name l f named k g plain n name t h below z.3 w in
         (y.0, y.1, few)
 
-    pub choose-none : (name : ℕ) → 256 ≤ name → NoneBelow l f n k g name → (s : Codes) × (t ≡ node k name s) × (name < 256)
-    choose-none name i below =
+    pub choose_none : (name : ℕ) → 256 ≤ name → NoneBelow l f n k g name → (s : Codes) × (t ≡ node k name s) × (name < 256)
+    choose_none name i below =
         let z = kind-node l f named k g plain h.fits.legal in
         absurd (below z.0 z.1 (omega (arith, z.3)) (rw z.2 at h.fits))

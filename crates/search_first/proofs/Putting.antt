@@ -21,7 +21,7 @@ use Rattle.search_sources.specs.Inner.Levels.{NeedsNamed}
 use Rattle.search_sources.proofs.Answers.{cons-first, first-nil, needs-zero, node-first}
 use Rattle.search_sources.proofs.Tokens.{first_token}
 use Rattle.search_levels.specs.Inner.Setting.{Seeks, value_at}
-use Rattle.search_levels.proofs.Needing.{source_apart, the-range, value-for}
+use Rattle.search_levels.proofs.Needing.{source_apart, the_range, value_for}
 use Rattle.search_first.specs.Inner.Puts.{Puts}
 
 -- A byte.
@@ -100,8 +100,8 @@ module _ (l : Language) (f : Clauses) (n : ℕ) (ks : List ℕ) (b : ℕ → Goa
           × FirstAll l f n (drop (j + 1) ks) (λ i. b (suc i + j)) r
       parts = cons-first l f n (get_or ks j 0) (drop (j + 1) ks) (λ i. b (i + j)) w.rest split
 
-      pub going-first : {k : ℕ} → k ≡ get_or ks j 0 → First l f n k (b j) parts.0
-      going-first {k} e =
+      pub going_first : {k : ℕ} → k ≡ get_or ks j 0 → First l f n k (b j) parts.0
+      going_first {k} e =
           let z : 0 + j ≡ j = omega arith in
           rw e (subst (λ (i : ℕ). First l f n (get_or ks j 0) (b i) parts.0) z parts.3)
 
@@ -126,8 +126,8 @@ module _ (table source target places kinds bytes memory free : List ℕ) (k at :
   unfolding write
   token_written class e some_class n t w {v} d =
       let z = first_token f.source (clauses_of f) (source_apart table source target places kinds bytes memory free k at f g h) k
-      (class_range source (class - 1)) (the-range table source target places kinds bytes memory free k at f g h class e some_class) g n
-      (value_at source class bytes at) t (value-for table source target places kinds bytes memory free k at f g h class e some_class g h.asked) w in
+      (class_range source (class - 1)) (the_range table source target places kinds bytes memory free k at f g h class e some_class) g n
+      (value_at source class bytes at) t (value_for table source target places kinds bytes memory free k at f g h class e some_class g h.asked) w in
       ap two_bytes d ∙ sym (ap (write tree) z)
 
   pub no_levels : range_of f.source k ≡ none → (n : ℕ) → n ≡ 0 → (t : Code) → First f.source (clauses_of f) n k g t → ⊥

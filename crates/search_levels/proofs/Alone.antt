@@ -15,9 +15,9 @@ use Rattle.run_table.proofs.Standing.{stands_head}
 use Rattle.search_sources.specs.Inner.Goals.{Goal}
 use Rattle.search_levels.specs.Inner.Clauses.{ArgumentAsks, ArgumentGives, StepAsks, StepGives, MatchAsks, MatchGives}
 use Rattle.search_levels.proofs.Lying.{some_byte}
-use Rattle.search_levels.proofs.Steps.{argument-new, width_other}
-use Rattle.search_levels.proofs.Turns.{argument-next, number_there, number_is, argument-asks, argument-step, first-differs}
-use Rattle.search_levels.proofs.Whole.{Going, production, the_clause, match-start, match-step, match-stops, match-next, match-done}
+use Rattle.search_levels.proofs.Steps.{argument_new, width_other}
+use Rattle.search_levels.proofs.Turns.{argument_next, number_there, number_is, argument_asks, argument_step, first_differs}
+use Rattle.search_levels.proofs.Whole.{Going, production, the_clause, match_start, match_step, match_stops, match_next, match_done}
 
 -- A code that starts with 03 has two bytes.
 alone : (t : List ℕ) (c : ℕ) (a : Code) → Stands t (body_start + c) (write code a) → body_byte t c ≡ 3 → length (write code a) ≡ 2
@@ -58,21 +58,21 @@ module _ (table target places kinds bytes memory bound : List ℕ) (place clause
       omega arith
 
   module _ (there : at < length bytes) (sign : body_byte table (clause + 4) ≡ 3 → ⊥) (other : body_byte table (clause + 5) ≡ get_or bytes at 0 → ⊥) where
-    abbrev root-stop : ℕ
-    root-stop = clause + 4 + length (write code (clauses_of f k p 0))
+    abbrev root_stop : ℕ
+    root_stop = clause + 4 + length (write code (clauses_of f k p 0))
 
-    root-start : Going table bytes bound (clause + 4) root-stop at f k p ks g
-    root-start = match-start table target places kinds bytes memory bound place clause at f k p ks g h there root-stop refl
+    root_start : Going table bytes bound (clause + 4) root_stop at f k p ks g
+    root_start = match_start table target places kinds bytes memory bound place clause at f k p ks g h there root_stop refl
 
-    root-asks : StepAsks table target places kinds bytes memory bound place (clause + 4) root-stop at f ks root-start.kinds root-start.codes root-start.trees root-start.so_far
-    root-asks =
-        match-step table target places kinds bytes memory bound place clause at f k p ks g h bound (clause + 4) root-stop at root-start
+    root_asks : StepAsks table target places kinds bytes memory bound place (clause + 4) root_stop at f ks root_start.kinds root_start.codes root_start.trees root_start.so_far
+    root_asks =
+        match_step table target places kinds bytes memory bound place clause at f k p ks g h bound (clause + 4) root_stop at root_start
         (let y = two_bytes_lem (clauses_of f k p 0) in omega arith)
 
     pub root_other : MatchGives bytes bound false f k p ks g
     root_other =
-        match-stops table target places kinds bytes memory bound place clause at f k p ks g h bound (clause + 4) root-stop at root-start bound 0
-        (first-differs table target places kinds bytes memory bound place (clause + 4) root-stop at f ks _ _ _ _ root-asks sign
+        match_stops table target places kinds bytes memory bound place clause at f k p ks g h bound (clause + 4) root_stop at root_start bound 0
+        (first_differs table target places kinds bytes memory bound place (clause + 4) root_stop at f ks _ _ _ _ root_asks sign
         (λ e. other (ap (body_byte table) (let z : clause + 5 ≡ clause + 4 + 1 = omega arith in z) ∙ e))) refl
 
 module _ (table target places kinds bytes memory bound : List ℕ) (place clause at : ℕ) (f : Translation) (k p : ℕ) (ks : List ℕ) (g : Goal)
@@ -86,13 +86,13 @@ module _ (table target places kinds bytes memory bound : List ℕ) (place clause
       omega arith
 
   start : Going table bytes bound (clause + 4) stop at f k p ks g
-  start = match-start table target places kinds bytes memory bound place clause at f k p ks g h there stop refl
+  start = match_start table target places kinds bytes memory bound place clause at f k p ks g h there stop refl
 
   asks : StepAsks table target places kinds bytes memory bound place (clause + 4) stop at f ks start.kinds start.codes start.trees start.so_far
-  asks = match-step table target places kinds bytes memory bound place clause at f k p ks g h bound (clause + 4) stop at start (let x = ends in omega arith)
+  asks = match_step table target places kinds bytes memory bound place clause at f k p ks g h bound (clause + 4) stop at start (let x = ends in omega arith)
 
   abbrev subtree : Code
-  subtree = (argument-next table target places kinds bytes memory bound place (clause + 4) stop at f ks _ _ _ _ asks sign).subtree
+  subtree = (argument_next table target places kinds bytes memory bound place (clause + 4) stop at f ks _ _ _ _ asks sign).subtree
 
   pub clause_inside : clause + 5 < 4096
   clause_inside =
@@ -104,29 +104,29 @@ module _ (table target places kinds bytes memory bound : List ℕ) (place clause
     byte : m ≡ body_byte table (clause + 4 + 1)
     byte = let e : clause + 5 ≡ clause + 4 + 1 = omega arith in is ∙ ap (body_byte table) e
 
-    pub number-inside : (1 ≤ m) × (m - 1 < 8)
-    number-inside =
+    pub number_inside : (1 ≤ m) × (m - 1 < 8)
+    number_inside =
         let x = (number_there table target places kinds bytes memory bound place (clause + 4) stop at f ks _ _ _ _ asks sign).0 in
         let y = number_is table target places kinds bytes memory bound place (clause + 4) stop at f ks _ _ _ _ asks sign byte in
         let z = (production table target places kinds bytes memory bound place clause at f k p ks g h).few in
-        let w = (argument-next table target places kinds bytes memory bound place (clause + 4) stop at f ks _ _ _ _ asks sign).byte in
+        let w = (argument_next table target places kinds bytes memory bound place (clause + 4) stop at f ks _ _ _ _ asks sign).byte in
         let b = byte in
         (omega arith, omega arith)
 
     gives : StepGives table bytes (set bound (m - 1) at) (clause + 4) stop (at + length (write tree subtree)) f ks start.codes start.trees start.so_far
     gives =
-        argument-step table target places kinds bytes memory bound place (clause + 4) stop at f ks _ _ _ _ asks sign byte
-        (argument-new target places bytes memory bound _ at (m - 1) f ks _ _
-        (argument-asks table target places kinds bytes memory bound place (clause + 4) stop at f ks _ _ _ _ asks sign byte refl refl)
-        (h.empty (m - 1) number-inside.1) _ refl)
+        argument_step table target places kinds bytes memory bound place (clause + 4) stop at f ks _ _ _ _ asks sign byte
+        (argument_new target places bytes memory bound _ at (m - 1) f ks _ _
+        (argument_asks table target places kinds bytes memory bound place (clause + 4) stop at f ks _ _ _ _ asks sign byte refl refl)
+        (h.empty (m - 1) number_inside.1) _ refl)
 
-    pub alone-matches : MatchGives bytes (set bound (m - 1) at) true f k p ks g
-    alone-matches =
-        match-done table target places kinds bytes memory bound place clause at f k p ks g h (set bound (m - 1) at) (clause + 4 + 2) stop (at + length (write tree subtree))
-        (match-next table target places kinds bytes memory bound place clause at f k p ks g h bound (clause + 4) stop at start (set bound (m - 1) at)
+    pub alone_matches : MatchGives bytes (set bound (m - 1) at) true f k p ks g
+    alone_matches =
+        match_done table target places kinds bytes memory bound place clause at f k p ks g h (set bound (m - 1) at) (clause + 4 + 2) stop (at + length (write tree subtree))
+        (match_next table target places kinds bytes memory bound place clause at f k p ks g h bound (clause + 4) stop at start (set bound (m - 1) at)
         (at + length (write tree subtree)) gives past_zero {n = 2} (width_other (body_byte table (clause + 4)) (λ z. omega arith)))
         (let x = ends in omega arith)
       where
         past_zero : at + length (write tree subtree) ≡ 0 → ⊥
         past_zero z =
-            let v = some_byte (argument-next table target places kinds bytes memory bound place (clause + 4) stop at f ks _ _ _ _ asks sign).lies.typed in omega arith
+            let v = some_byte (argument_next table target places kinds bytes memory bound place (clause + 4) stop at f ks _ _ _ _ asks sign).lies.typed in omega arith

@@ -63,50 +63,50 @@ module _ (x s b before : List ℕ) (first last at : ℕ) (l : Language) (ts : Co
   filling_start r = record { rest = ts; deep = omega arith; row = r; whole = refl; ends = λ t. t; levels = λ p j h. refl }
 
   module _ (kinds : KindsIn s first last) (after : List ℕ) (q to : ℕ) (w : Filling x s b before after end (levels_all ts) q last to l) where
-    pub filling-end : last ≤ q → Fills l b before after end to
-    filling-end h =
+    pub filling_end : last ≤ q → Fills l b before after end to
+    filling_end h =
         let z = (no_trees 0 w.rest (none_left x s b to q last l w.rest w.row h)).1 in
         let y = w.whole in
         record { to = omega arith; ends = w.ends; levels = w.levels }
 
     module _ (from : first ≤ q) (more : q < last) where
-      pub filling-kind : (q < length s) × (get_or s q 0 < 32)
-      filling-kind = kinds q from more
+      pub filling_kind : (q < length s) × (get_or s q 0 < 32)
+      filling_kind = kinds q from more
 
-      pub filling-turn : Turn x s b to q last l w.rest
-      filling-turn = turn x s b to q last l w.rest w.row more (kinds_end s first last q kinds from more)
+      pub filling_turn : Turn x s b to q last l w.rest
+      filling_turn = turn x s b to q last l w.rest w.row more (kinds_end s first last q kinds from more)
 
       -- The first tree and the others have no more levels than the row.
-      turn-deep : (levels filling-turn.head ≤ levels_all ts) × (levels_all filling-turn.tail ≤ levels_all ts)
+      turn_deep : (levels filling_turn.head ≤ levels_all ts) × (levels_all filling_turn.tail ≤ levels_all ts)
       unfolding levels
-      turn-deep = let e = ap levels_all filling-turn.is in let y = w.deep in (omega arith, omega arith)
+      turn_deep = let e = ap levels_all filling_turn.is in let y = w.deep in (omega arith, omega arith)
 
-      module _ (k f e t : ℕ) (ek : k ≡ get_or s q 0) (p : Opens x s b to k l filling-turn.head f e t) where
+      module _ (k f e t : ℕ) (ek : k ≡ get_or s q 0) (p : Opens x s b to k l filling_turn.head f e t) where
         -- Operands that there are have a level fewer than the row.
-        pub filling-deeper : f < e → levels_all p.operands < levels_all ts
-        filling-deeper h =
+        pub filling_deeper : f < e → levels_all p.operands < levels_all ts
+        filling_deeper h =
             let j : e ≤ length s = kinds_end s f e f p.kinds (omega arith) h in
             let y : slice f e s ≡ get_or s f 0 ∷ slice (f + 1) e s = sym (part_next (λ (a : List ℕ). a) s f e (slice f e s) refl h j) in
             let z : 0 < length (slice f e s) = rw y (omega arith) in
             let d = deeper p.shape z in
-            omega (arith, turn-deep.0)
+            omega (arith, turn_deep.0)
 
         module _ (memory : List ℕ) (r : ℕ) (inner : Fills l b after memory (t + length (write_all tree p.operands)) r) where
-          end_is : r ≡ to + length (write tree filling-turn.head)
-          end_is = inner.to ∙ sym (turn_end x s b to q last l w.rest filling-turn k f e t p)
+          end_is : r ≡ to + length (write tree filling_turn.head)
+          end_is = inner.to ∙ sym (turn_end x s b to q last l w.rest filling_turn k f e t p)
 
-          pub filling-next : (final : List ℕ) → Keeps memory final k to r → Filling x s b before final end (levels_all ts) (q + 1) last r l
-          filling-next final u = record {
-            rest = filling-turn.tail;
-            deep = turn-deep.1;
-            row = rw end_is filling-turn.row;
-            whole = let z = turn_long x s b to q last l w.rest filling-turn in let y = w.whole in let v = end_is in omega arith;
-            ends = λ z. ends_kept x s b memory final k to r l filling-turn.head (rw ek filling-turn.there) end_is u (inner.ends (w.ends z));
+          pub filling_next : (final : List ℕ) → Keeps memory final k to r → Filling x s b before final end (levels_all ts) (q + 1) last r l
+          filling_next final u = record {
+            rest = filling_turn.tail;
+            deep = turn_deep.1;
+            row = rw end_is filling_turn.row;
+            whole = let z = turn_long x s b to q last l w.rest filling_turn in let y = w.whole in let v = end_is in omega arith;
+            ends = λ z. ends_kept x s b memory final k to r l filling_turn.head (rw ek filling_turn.there) end_is u (inner.ends (w.ends z));
             levels = λ i j h. u.levels i j h ∙ (inner.levels i j h ∙ w.levels i j h);
           }
 
         -- A tree without operands ends where they would start.
-        pub filling-leaf : e ≤ f → (final : List ℕ) → Keeps after final k to t → Filling x s b before final end (levels_all ts) (q + 1) last t l
-        filling-leaf h =
+        pub filling_leaf : e ≤ f → (final : List ℕ) → Keeps after final k to t → Filling x s b before final end (levels_all ts) (q + 1) last t l
+        filling_leaf h =
             let z = (no_trees 0 p.operands (none_left x s b t f e l p.operands p.row h)).1 in
-            filling-next after t (record { to = omega arith; ends = λ y. y; levels = λ i j o. refl })
+            filling_next after t (record { to = omega arith; ends = λ y. y; levels = λ i j o. refl })

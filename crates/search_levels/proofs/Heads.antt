@@ -12,7 +12,7 @@ use Rattle.format_fields.specs.Lists.{all}
 use Rattle.format_fields.proofs.Truth.{none_some, some_inj, and_both, both_and}
 use Rattle.format_language.specs.Language.{Language, Range, range_of, arguments_of, is_in}
 use Rattle.tree_reader.specs.Code.{Code, node, token, argument, Codes, nil, cons, levels, levels_all}
-use Rattle.tree_reader.specs.Typing.{Uses, kind_by, kind_at, Typed, TypedAll, typed-node, typed-token, typed-argument, typed-nil, typed-cons}
+use Rattle.tree_reader.specs.Typing.{Uses, kind_by, kind_at, Typed, TypedAll, typed_node, typed_token, typed_argument, typed_nil, typed_cons}
 use Rattle.tree_reader.specs.Syntax.{write, write_all, tree, code}
 use Rattle.tree_reader.proofs.RoundTrip.{Apart}
 use Rattle.tree_reader.proofs.Larger.{apart}
@@ -137,59 +137,59 @@ module _ (table bytes : List ℕ) (c stop to : ℕ) (f : Translation) (separate 
       (stands : Stands table (body_start + c) (write_all code (cons (node k p t) es))) (ends : stop ≡ c + length (write_all code (cons (node k p t) es)))
       (trees : LieAll f.target bytes to (k ∷ js) (cons (node k q r) vs)) (is : List ℕ) (known-too : arguments_of f.target k q ≡ some is)
       (typed-too : TypedAll f.target [] r is) where
-    code-bytes : (body_byte table c ≡ 1) × (body_byte table (c + 1) ≡ p) × Stands table (body_start + (c + 2)) (write_all code t ++ write_all code es)
+    code_bytes : (body_byte table c ≡ 1) × (body_byte table (c + 1) ≡ p) × Stands table (body_start + (c + 2)) (write_all code t ++ write_all code es)
     unfolding write
-    code-bytes = two_stand table c 1 p (write_all code t ++ write_all code es) stands
+    code_bytes = two_stand table c 1 p (write_all code t ++ write_all code es) stands
 
-    code-ends : stop ≡ c + 2 + length (write_all code t ++ write_all code es)
+    code_ends : stop ≡ c + 2 + length (write_all code t ++ write_all code es)
     unfolding write
-    code-ends = let e = ends in omega arith
+    code_ends = let e = ends in omega arith
 
-    same-kinds : p ≡ q → is ≡ ks
-    same-kinds e = some_inj (sym known-too ∙ (ap (arguments_of f.target k) (sym e) ∙ known))
+    same_kinds : p ≡ q → is ≡ ks
+    same_kinds e = some_inj (sym known-too ∙ (ap (arguments_of f.target k) (sym e) ∙ known))
 
-    typed-same : p ≡ q → TypedAll f.target [] r ks
-    typed-same e = rw (← (same-kinds e)) typed-too
+    typed_same : p ≡ q → TypedAll f.target [] r ks
+    typed_same e = rw (← (same_kinds e)) typed-too
 
-    node-next : p ≡ q → Pending table bytes (c + 2) stop (to + 1) f given (ks ++ js) (followed t es) (followed r vs)
-    node-next e = record {
+    node_next : p ≡ q → Pending table bytes (c + 2) stop (to + 1) f given (ks ++ js) (followed t es) (followed r vs)
+    node_next e = record {
       codes = typed_followed typed codes;
-      stands = rw (write_followed code t es) code-bytes.2;
-      ends = code-ends ∙ ap (λ (v : List ℕ). c + 2 + length v) (sym (write_followed code t es));
+      stands = rw (write_followed code t es) code_bytes.2;
+      ends = code_ends ∙ ap (λ (v : List ℕ). c + 2 + length v) (sym (write_followed code t es));
       inside = inside;
-      trees = node_row f.target bytes to k q js r vs trees ks (ap (arguments_of f.target k) (sym e) ∙ known) (typed-same e);
+      trees = node_row f.target bytes to k q js r vs trees ks (ap (arguments_of f.target k) (sym e) ∙ known) (typed_same e);
     }
 
-    node-head : NodeHead table bytes c stop to f given (cons (node k p t) es) (cons (node k q r) vs) b
-    node-head =
+    node_head : NodeHead table bytes c stop to f given (cons (node k p t) es) (cons (node k q r) vs) b
+    node_head =
         let byte : get_or bytes to 0 ≡ q = (behind_name f.target bytes to k q js r vs trees).1 in
-        let name = code-bytes.1 in
+        let name = code_bytes.1 in
         record {
-          sign = code-bytes.0;
-          room = let e = code-ends in omega arith;
+          sign = code_bytes.0;
+          room = let e = code_ends in omega arith;
           same = λ e.
               let d : p ≡ q = sym name ∙ (e ∙ byte) in
-              (ks ++ js, followed t es, followed r vs, node-next d, rw (← d) (step_node b k p t es r vs typed (typed-same d)));
+              (ks ++ js, followed t es, followed r vs, node_next d, rw (← d) (step_node b k p t es r vs typed (typed_same d)));
           other = λ n s z. no_node b k p t es r vs q (λ d. n (name ∙ (d ∙ sym byte))) s z;
         }
 
   module _ (v w : ℕ) (stands : Stands table (body_start + c) (write_all code (cons (token v) es))) (ends : stop ≡ c + length (write_all code (cons (token v) es)))
       (trees : LieAll f.target bytes to (k ∷ js) (cons (token w) vs)) where
-    value-bytes : (body_byte table c ≡ 2) × (body_byte table (c + 1) ≡ v / 256) × (body_byte table (c + 2) ≡ v % 256) × Stands table (body_start + (c + 3)) (write_all code es)
+    value_bytes : (body_byte table c ≡ 2) × (body_byte table (c + 1) ≡ v / 256) × (body_byte table (c + 2) ≡ v % 256) × Stands table (body_start + (c + 3)) (write_all code es)
     unfolding write
-    value-bytes = three_stand table c 2 (v / 256) (v % 256) (write_all code es) stands
+    value_bytes = three_stand table c 2 (v / 256) (v % 256) (write_all code es) stands
 
-    value-ends : stop ≡ c + 3 + length (write_all code es)
+    value_ends : stop ≡ c + 3 + length (write_all code es)
     unfolding write
-    value-ends = let e = ends in omega arith
+    value_ends = let e = ends in omega arith
 
-    token-head : TokenHead table bytes c stop to f given (cons (token v) es) (cons (token w) vs) b
-    token-head =
+    token_head : TokenHead table bytes c stop to f given (cons (token v) es) (cons (token w) vs) b
+    token_head =
         let t = token_bytes f.target bytes to k w js vs trees in
-        let x = value-bytes in
+        let x = value_bytes in
         record {
           sign = x.0;
-          room = let e = value-ends in omega arith;
+          room = let e = value_ends in omega arith;
           same = λ i j.
               let high : v / 256 ≡ w / 256 = sym x.1 ∙ (i ∙ t.0) in
               let low : v % 256 ≡ w % 256 = sym x.2 ∙ (j ∙ t.1) in
@@ -197,7 +197,7 @@ module _ (table bytes : List ℕ) (c stop to : ℕ) (f : Translation) (separate 
                 js,
                 es,
                 vs,
-                record { codes = codes; stands = x.3; ends = value-ends; inside = inside; trees = token_row f.target bytes to k w js vs trees },
+                record { codes = codes; stands = x.3; ends = value_ends; inside = inside; trees = token_row f.target bytes to k w js vs trees },
                 rw (← d) (step_token b v es vs),
               );
           high = λ n s z. no_token b v es vs w (λ d. n (x.1 ∙ (ap (λ (y : ℕ). y / 256) d ∙ sym t.0))) s z;
@@ -206,33 +206,33 @@ module _ (table bytes : List ℕ) (c stop to : ℕ) (f : Translation) (separate 
 
   module _ (i : ℕ) (u : Code) (known : kind_by (get_elem? given i) 0 ≡ some k) (stands : Stands table (body_start + c) (write_all code (cons (argument (suc i) 0) es)))
       (ends : stop ≡ c + length (write_all code (cons (argument (suc i) 0) es))) (trees : LieAll f.target bytes to (k ∷ js) (cons u vs)) where
-    number-bytes : (body_byte table c ≡ 3) × (body_byte table (c + 1) ≡ suc i) × Stands table (body_start + (c + 2)) (write_all code es)
+    number_bytes : (body_byte table c ≡ 3) × (body_byte table (c + 1) ≡ suc i) × Stands table (body_start + (c + 2)) (write_all code es)
     unfolding write
-    number-bytes = two_stand table c 3 (suc i) (write_all code es) stands
+    number_bytes = two_stand table c 3 (suc i) (write_all code es) stands
 
-    number-ends : stop ≡ c + 2 + length (write_all code es)
+    number_ends : stop ≡ c + 2 + length (write_all code es)
     unfolding write
-    number-ends = let e = ends in omega arith
+    number_ends = let e = ends in omega arith
 
-    argument-head : ArgumentHead table bytes c stop to f given (cons (argument (suc i) 0) es) (cons u vs)
-    argument-head = record {
+    argument_head : ArgumentHead table bytes c stop to f given (cons (argument (suc i) 0) es) (cons u vs)
+    argument_head = record {
       number = i;
       kind = k;
       subtree = u;
       kinds = js;
       codes = es;
       trees = vs;
-      sign = number-bytes.0;
-      room = let e = number-ends in omega arith;
-      byte = number-bytes.1;
+      sign = number_bytes.0;
+      room = let e = number_ends in omega arith;
+      byte = number_bytes.1;
       given_at = known;
       cs_is = refl;
       us_is = refl;
       lies = head_lies f.target bytes to k js u vs trees;
       next = record {
         codes = codes;
-        stands = number-bytes.2;
-        ends = number-ends;
+        stands = number_bytes.2;
+        ends = number_ends;
         inside = inside;
         trees = tail_lie f.target bytes to k js u vs trees;
       };
@@ -248,18 +248,18 @@ module _ (table bytes : List ℕ) (c stop to : ℕ) (f : Translation) (separate 
   head : {a u : Code} {k : ℕ} → Typed f.target given a k → Typed f.target [] u k → (js : List ℕ) (es vs : Codes) → TypedAll f.target given es js
       → Stands table (body_start + c) (write_all code (cons a es)) → stop ≡ c + length (write_all code (cons a es))
       → LieAll f.target bytes to (k ∷ js) (cons u vs) → Head (cons a es) (cons u vs)
-  head (typed-node {k = k} {p = p} {t = t} {ks = ks} e h) (typed-node {p = q} {t = r} {ks = is} d g) js es vs w x y z =
-      inl (node-head table bytes c stop to f separate given k js es vs b w inside p q t r ks e h x y z is d g)
-  head (typed-node {k = k} {p = p} {ks = ks} e h) (typed-token d g) js es vs w x y z = none_some (sym (separate k p ks e) ∙ d)
-  head (typed-token {k = k} e h) (typed-node {p = p} {ks = ks} d g) js es vs w x y z = none_some (sym (separate k p ks d) ∙ e)
-  head (typed-token {v = v} {k = k} e h) (typed-token {v = o} d g) js es vs w x y z =
-      inr (inl (token-head table bytes c stop to f separate given k js es vs b w inside v o x y z))
-  head (typed-argument {i = zero} e) g js es vs w x y z = none_some e
-  head (typed-argument {i = suc i} {j = suc j} {k = k} e) g js es vs w x y z = let n = plain (suc i) (suc j) k e in absurd (omega arith)
-  head {u = u} (typed-argument {i = suc i} {j = zero} {k = k} e) g js es vs w x y z =
-      inr (inr (argument-head table bytes c stop to f separate given k js es vs b w inside i u e x y z))
-  head (typed-node e h) (typed-argument {i = i} {j = j} d) js es vs w x y z = no_kind i j d
-  head (typed-token e h) (typed-argument {i = i} {j = j} d) js es vs w x y z = no_kind i j d
+  head (typed_node {k = k} {p = p} {t = t} {ks = ks} e h) (typed_node {p = q} {t = r} {ks = is} d g) js es vs w x y z =
+      inl (node_head table bytes c stop to f separate given k js es vs b w inside p q t r ks e h x y z is d g)
+  head (typed_node {k = k} {p = p} {ks = ks} e h) (typed_token d g) js es vs w x y z = none_some (sym (separate k p ks e) ∙ d)
+  head (typed_token {k = k} e h) (typed_node {p = p} {ks = ks} d g) js es vs w x y z = none_some (sym (separate k p ks d) ∙ e)
+  head (typed_token {v = v} {k = k} e h) (typed_token {v = o} d g) js es vs w x y z =
+      inr (inl (token_head table bytes c stop to f separate given k js es vs b w inside v o x y z))
+  head (typed_argument {i = zero} e) g js es vs w x y z = none_some e
+  head (typed_argument {i = suc i} {j = suc j} {k = k} e) g js es vs w x y z = let n = plain (suc i) (suc j) k e in absurd (omega arith)
+  head {u = u} (typed_argument {i = suc i} {j = zero} {k = k} e) g js es vs w x y z =
+      inr (inr (argument_head table bytes c stop to f separate given k js es vs b w inside i u e x y z))
+  head (typed_node e h) (typed_argument {i = i} {j = j} d) js es vs w x y z = no_kind i j d
+  head (typed_token e h) (typed_argument {i = i} {j = j} d) js es vs w x y z = no_kind i j d
 
 -- What is pending has a next code, unless it has come to its end.
 pub heads : (table bytes : List ℕ) (c stop to : ℕ) (f : Translation) → Apart f.target → (given : Uses) → Plain given → (js : List ℕ) (cs us : Codes) (b : ℕ → Goal)
@@ -273,6 +273,6 @@ heads table bytes c stop to f separate given plain js cs us b h more = go h.code
         → stop ≡ c + length (write_all code cs) → LieAll f.target bytes to js us
         → NodeHead table bytes c stop to f given cs us b
         ⊎ (TokenHead table bytes c stop to f given cs us b ⊎ ArgumentHead table bytes c stop to f given cs us)
-    go typed-nil typed-nil x y z = absurd (omega arith)
-    go (typed-cons {a = a} {k = k} {t = es} {ks = ks} p ps) (typed-cons {a = u} {t = vs} q qs) x y z =
+    go typed_nil typed_nil x y z = absurd (omega arith)
+    go (typed_cons {a = a} {k = k} {t = es} {ks = ks} p ps) (typed_cons {a = u} {t = vs} q qs) x y z =
         head table bytes c stop to f separate given plain b h.inside p q ks es vs ps x y z

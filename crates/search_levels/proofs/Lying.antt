@@ -11,7 +11,7 @@ use Rattle.format_fields.proofs.Split.{front}
 use Rattle.format_fields.proofs.Truth.{none_some}
 use Rattle.format_language.specs.Language.{Language}
 use Rattle.tree_reader.specs.Code.{Code, levels}
-use Rattle.tree_reader.specs.Typing.{Typed, typed-node, typed-token, typed-argument}
+use Rattle.tree_reader.specs.Typing.{Typed, typed_node, typed_token, typed_argument}
 use Rattle.tree_reader.specs.Syntax.{Read, done, write, tree, read}
 use Rattle.tree_reader.proofs.RoundTrip.{Apart, round, as_tree}
 use Rattle.tree_index.specs.Inner.Lying.{Lies}
@@ -52,9 +52,9 @@ module _ (l : Language) (apart : Apart l) (b : List ℕ) (k : ℕ) where
 -- A tree has a byte.
 pub some_byte : {l : Language} {u : Code} {k : ℕ} → Typed l [] u k → 1 ≤ length (write tree u)
 unfolding write
-some_byte (typed-node e h) = omega arith
-some_byte (typed-token e h) = omega arith
-some_byte (typed-argument {i = i} {j = j} e) = no_kind i j e
+some_byte (typed_node e h) = omega arith
+some_byte (typed_token e h) = omega arith
+some_byte (typed_argument {i = i} {j = j} e) = no_kind i j e
 
 -- same_part: the parts are equal as far as i.
 pub record SameTo (t : List ℕ) (a b i : ℕ) : Type 0 where

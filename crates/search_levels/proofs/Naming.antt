@@ -111,14 +111,14 @@ module _ (table s : List ℕ) (h : Filed table s) where
     unfolding places_from
     parts = splits (suc (length s)) s 0 x (omega arith) here
 
-    split-rise : From (key_at 0x11 s) 0 (parts.before ++ (x ∷ places_from s behind))
-    split-rise = rw parts.is at rise
+    split_rise : From (key_at 0x11 s) 0 (parts.before ++ (x ∷ places_from s behind))
+    split_rise = rw parts.is at rise
 
     low : (y : ℕ) → Mem y parts.before → key_at 0x11 s y < key
-    low y m = lower (key_at 0x11 s) 0 parts.before x (places_from s behind) split-rise y m
+    low y m = lower (key_at 0x11 s) 0 parts.before x (places_from s behind) split_rise y m
 
     high : From (key_at 0x11 s) (suc key) (places_from s behind)
-    high = higher (key_at 0x11 s) 0 parts.before x (places_from s behind) split-rise
+    high = higher (key_at 0x11 s) 0 parts.before x (places_from s behind) split_rise
 
     in_all : (y : ℕ) → Mem y parts.before ⊎ Mem y (x ∷ places_from s behind) → Mem y (places s)
     in_all y m = rw parts.is (mem_append y parts.before (x ∷ places_from s behind) m)
@@ -152,25 +152,25 @@ module _ (table s : List ℕ) (h : Filed table s) where
             (append_cases y parts.before (x ∷ places_from s behind) (rw parts.is at m))
 
     module _ (more : behind < length s) where
-      pub behind-in : Mem behind (places s)
-      behind-in = in_all behind (inr (inr (rw (places_next s behind more) (inl refl))))
+      pub behind_in : Mem behind (places s)
+      behind_in = in_all behind (inr (inr (rw (places_next s behind more) (inl refl))))
 
-      pub behind-whole : entry_whole s behind ≡ true
-      behind-whole = all_mem (entry_whole s) (places s) h.rises.whole behind behind-in
+      pub behind_whole : entry_whole s behind ≡ true
+      behind_whole = all_mem (entry_whole s) (places s) h.rises.whole behind behind_in
 
-      pub behind-higher : key < key_at 0x11 s behind
-      behind-higher = let g = rw (places_next s behind more) at high in omega (arith, g.0)
+      pub behind_higher : key < key_at 0x11 s behind
+      behind_higher = let g = rw (places_next s behind more) at high in omega (arith, g.0)
 
-      pub behind-place : slot_at 0x11 s behind < 8224 → get_or table (slot_at 0x11 s behind) 0 ≡ behind + 1
-      behind-place q =
+      pub behind_place : slot_at 0x11 s behind < 8224 → get_or table (slot_at 0x11 s behind) 0 ≡ behind + 1
+      behind_place q =
           at_key (slot_at 0x11 s behind) q
           ∙ (ap (place_of 0x11 s (slot_at 0x11 s behind)) parts.is
           ∙ (place_past s (slot_at 0x11 s behind) parts.before (x ∷ places_from s behind) (λ y m e.
-          let k = slot_of y (in_all y (inl m)) in let w = low y m in let v = behind-higher in let u = slot_of behind behind-in in omega arith)
+          let k = slot_of y (in_all y (inl m)) in let w = low y m in let v = behind_higher in let u = slot_of behind behind_in in omega arith)
           ∙ first_past))
         where
           other : slot_at 0x11 s x ≡ slot_at 0x11 s behind → ⊥
-          other e = let k = slot_of x here in let u = slot_of behind behind-in in let v = behind-higher in omega arith
+          other e = let k = slot_of x here in let u = slot_of behind behind_in in let v = behind_higher in omega arith
 
           first_past : place_of 0x11 s (slot_at 0x11 s behind) (x ∷ places_from s behind) ≡ behind + 1
           first_past =
@@ -178,9 +178,9 @@ module _ (table s : List ℕ) (h : Filed table s) where
               ∙ (ap (place_of 0x11 s (slot_at 0x11 s behind)) (places_next s behind more) ∙ place_here s behind (places_from s (field_end s behind)))
 
       -- Behind a production there are only productions.
-      pub behind-production : 32 ≤ key → IsProduction s behind
-      behind-production q =
-          ⊎_elim (λ c. let w = class_small s behind c in let v = behind-higher in absurd (omega arith)) (λ c. c) (entry_facts s behind behind-whole)
+      pub behind_production : 32 ≤ key → IsProduction s behind
+      behind_production q =
+          ⊎_elim (λ c. let w = class_small s behind c in let v = behind_higher in absurd (omega arith)) (λ c. c) (entry_facts s behind behind_whole)
 
   -- name_behind: the production of kind k and name p.
   module _ (k p : ℕ) (kind : k < 32) (name : p < 256) (known : 0 < get_or table (production_key k p) 0) where
@@ -193,18 +193,18 @@ module _ (table s : List ℕ) (h : Filed table s) where
     field_in : Mem field (places s)
     field_in = found.3
 
-    field-key : key_at 0x11 s field ≡ production_key k p
-    field-key = sym (slot_of field field_in) ∙ found.2
+    field_key : key_at 0x11 s field ≡ production_key k p
+    field_key = sym (slot_of field field_in) ∙ found.2
 
     place_is : get_or table (production_key k p) 0 ≡ field + 1
     place_is = at_key (production_key k p) (omega arith) ∙ found.1
 
-    entry-of : {r j : ℕ} → r ≡ get_or table j 0 → j ≡ production_key k p → r ≡ get_or table (production_key k p) 0
-    entry-of e d = e ∙ ap (λ (x : ℕ). get_or table x 0) d
+    entry_of_lem : {r j : ℕ} → r ≡ get_or table j 0 → j ≡ production_key k p → r ≡ get_or table (production_key k p) 0
+    entry_of_lem e d = e ∙ ap (λ (x : ℕ). get_or table x 0) d
 
     pub place_inside : (place j : ℕ) → place ≡ get_or table j 0 → j ≡ production_key k p → (place < 65536) × (place + 1 < length s)
     place_inside place j e d =
-        let z : place ≡ get_or table (production_key k p) 0 = entry-of e d in
+        let z : place ≡ get_or table (production_key k p) 0 = entry_of_lem e d in
         let w = entry_kind s field (all_mem (entry_whole s) (places s) h.rises.whole field field_in) in
         let q = place_is in
         let y = h.short in
@@ -212,7 +212,7 @@ module _ (table s : List ℕ) (h : Filed table s) where
 
     module _ (place next j : ℕ) (ep : place ≡ get_or table j 0) (ej : j ≡ production_key k p) (d : next ≡ place + 2 + pair_at s place) where
       e : place ≡ get_or table (production_key k p) 0
-      e = entry-of ep ej
+      e = entry_of_lem ep ej
 
       next_is : next ≡ field_end s field
       unfolding field_end
@@ -220,36 +220,36 @@ module _ (table s : List ℕ) (h : Filed table s) where
           let q : place ≡ field + 1 = e ∙ place_is in
           let n : pair_at s place ≡ pair_at s (field + 1) = ap (pair_at s) q in omega arith
 
-      pub none-behind : length s ≤ next → (256 ≤ 256) × Named table k 256 × Unnamed table k (p + 1) 256
-      none-behind past = (
+      pub none_behind : length s ≤ next → (256 ≤ 256) × Named table k 256 × Unnamed table k (p + 1) 256
+      none_behind past = (
         omega arith,
         record { there = λ z. absurd (omega arith) },
         record {
-          none = λ q i o. between field field_in (production_key k q) (let z = field-key in omega arith) (λ z. let w = next_is in absurd (omega arith)) (omega arith);
+          none = λ q i o. between field field_in (production_key k q) (let z = field_key in omega arith) (λ z. let w = next_is in absurd (omega arith)) (omega arith);
         },
       )
 
       module _ (more : next < length s) where
-        more-too : field_end s field < length s
-        more-too = rw (← next_is) more
+        more_too : field_end s field < length s
+        more_too = rw (← next_is) more
 
         is_production : IsProduction s (field_end s field)
-        is_production = behind-production field field_in more-too (let z = field-key in omega arith)
+        is_production = behind_production field field_in more_too (let z = field_key in omega arith)
 
         slot_is : slot_at 0x11 s (field_end s field) ≡ production_key (get_or s (next + 3) 0) (get_or s (next + 4) 0)
         slot_is = rw next_is (production_key_lem s (field_end s field) is_production)
 
         key_is : key_at 0x11 s (field_end s field) ≡ production_key (get_or s (next + 3) 0) (get_or s (next + 4) 0)
-        key_is = sym (slot_of (field_end s field) (behind-in field field_in more-too)) ∙ slot_is
+        key_is = sym (slot_of (field_end s field) (behind_in field field_in more_too)) ∙ slot_is
 
         pub next_inside : next + 4 < length s
-        next_inside = rw next_is (entry_kind s (field_end s field) (behind-whole field field_in more-too)).0
+        next_inside = rw next_is (entry_kind s (field_end s field) (behind_whole field field_in more_too)).0
 
-        pub other-behind : {r : ℕ} → r ≡ get_or s (next + 3) 0 → (r ≡ k → ⊥) → (256 ≤ 256) × Named table k 256 × Unnamed table k (p + 1) 256
-        other-behind {r} er n =
-            let a = field-key in
+        pub other_behind : {r : ℕ} → r ≡ get_or s (next + 3) 0 → (r ≡ k → ⊥) → (256 ≤ 256) × Named table k 256 × Unnamed table k (p + 1) 256
+        other_behind {r} er n =
+            let a = field_key in
             let b = key_is in
-            let c = behind-higher field field_in more-too in
+            let c = behind_higher field field_in more_too in
             let v = h.narrow (next + 4) in (
               omega arith,
               record { there = λ z. absurd (omega arith) },
@@ -258,15 +258,15 @@ module _ (table s : List ℕ) (h : Filed table s) where
               },
             )
 
-        pub next-behind : {r m : ℕ} → r ≡ get_or s (next + 3) 0 → r ≡ k → m ≡ get_or s (next + 4) 0 → (p < m) × (m ≤ 256) × Named table k m × Unnamed table k (p + 1) m
-        next-behind {r} {m} er ek em =
-            let a = field-key in
+        pub next_behind : {r m : ℕ} → r ≡ get_or s (next + 3) 0 → r ≡ k → m ≡ get_or s (next + 4) 0 → (p < m) × (m ≤ 256) × Named table k m × Unnamed table k (p + 1) m
+        next_behind {r} {m} er ek em =
+            let a = field_key in
             let b = key_is in
-            let c = behind-higher field field_in more-too in
+            let c = behind_higher field field_in more_too in
             let v = h.narrow (next + 4) in
             let u : slot_at 0x11 s (field_end s field) ≡ production_key k m = slot_is ∙ (λ i. production_key ((sym er ∙ ek) i) (sym em i)) in
             let g : get_or table (production_key k m) 0 ≡ field_end s field + 1 =
-            ap (λ (j : ℕ). get_or table j 0) (sym u) ∙ behind-place field field_in more-too (omega arith) in (
+            ap (λ (j : ℕ). get_or table j 0) (sym u) ∙ behind_place field field_in more_too (omega arith) in (
               omega arith,
               omega arith,
               record { there = λ z. omega arith },

@@ -36,7 +36,7 @@ use Rattle.search_sources.proofs.Tokens.{class_token, ValueFor, needs_token, nee
 use Rattle.search_levels.specs.Inner.Setting.{Asked, Truthful, Setting, Unnamed, Without, Named, value_at, Seeks, SeeksAll}
 use Rattle.search_levels.specs.Inner.Clauses.{Bound, MatchAsks, MatchGives}
 use Rattle.search_levels.specs.Inner.Memory.{byte_for, memory_with, free_with}
-use Rattle.search_levels.proofs.Truths.{byte_says, kept-true}
+use Rattle.search_levels.proofs.Truths.{byte_says, kept_true}
 
 -- The number in two bytes.
 pair_is : (b : List ℕ) (i v : ℕ) → get_or b i 0 ≡ v / 256 → get_or b (i + 1) 0 ≡ v % 256 → pair_at b i ≡ v
@@ -96,51 +96,51 @@ module _ (table source target places kinds bytes memory free : List ℕ) (k at :
     plain e = range_is ∙ ap (range_before source) e
 
     module _ (some_class : class ≡ 0 → ⊥) where
-      pub class-positive : 0 < class
-      class-positive = omega arith
+      pub class_positive : 0 < class
+      class_positive = omega arith
 
-      pub class-whole : IsClass source (class - 1)
-      class-whole = rw place (h.setting.source-index.sound.class k h.kind (let z = class-positive in omega arith))
+      pub class_whole : IsClass source (class - 1)
+      class_whole = rw place (h.setting.source-index.sound.class k h.kind (let z = class_positive in omega arith))
 
-      pub the-range : range_of l k ≡ some (class_range source (class - 1))
-      the-range = let e : class ≡ suc (class - 1) = omega arith in range_is ∙ ap (range_before source) e
+      pub the_range : range_of l k ≡ some (class_range source (class - 1))
+      the_range = let e : class ≡ suc (class - 1) = omega arith in range_is ∙ ap (range_before source) e
 
       low_is : length bytes ≤ at → value_at source class bytes at ≡ (class_range source (class - 1)).low
       unfolding value_at class_range
       low_is past = let e : class + 3 ≡ class - 1 + 4 = omega arith in rw (le-leb (length bytes) at past) (ap (pair_at source) e)
 
-      tree-value : (v : ℕ) → Lies f.target bytes at (mapped f.body k 0) (token v) → pair_at bytes at ≡ v
+      tree_value : (v : ℕ) → Lies f.target bytes at (mapped f.body k 0) (token v) → pair_at bytes at ≡ v
       unfolding write
-      tree-value v t =
+      tree_value v t =
           let p = first_byte bytes at (v / 256) (v % 256 ∷ t.rest) t.inside t.is in
           let q = first_byte bytes (at + 1) (v % 256) t.rest (let z = p.0 in omega arith) p.2 in
           let x = p.1 in
           let y = q.1 in
           pair_is bytes at v x y
 
-      pub value-for : (g : Goal) → Asked f bytes at k g → ValueFor l clauses source_apart k (class_range source (class - 1)) the-range g (value_at source class bytes at)
+      pub value_for : (g : Goal) → Asked f bytes at k g → ValueFor l clauses source_apart k (class_range source (class - 1)) the_range g (value_at source class bytes at)
       unfolding value_at
-      value-for none a = low_is a
-      value-for (some u) a =
-          let d = h.setting.tokens k (class_range source (class - 1)) the-range in
+      value_for none a = low_is a
+      value_for (some u) a =
+          let d = h.setting.tokens k (class_range source (class - 1)) the_range in
           let z = class_token f.target clauses target_apart (mapped f.body k 0) d.0 d.1 a.1.typed in
           let t : Lies f.target bytes at (mapped f.body k 0) (token z.0) = rw z.1 at a.1 in
-          rw (lt-leb (length bytes) at a.0) (z.1 ∙ ap token (sym (tree-value z.0 t)))
+          rw (lt-leb (length bytes) at a.0) (z.1 ∙ ap token (sym (tree_value z.0 t)))
 
-      pub class-needs : (m : ℕ) {r : ℕ} → r ≡ cond (in_range (class_range source (class - 1)) (value_at source class bytes at)) 0 (suc m) → Needs l clauses m k g r
-      class-needs m {r} e = rw e (go (in_range (class_range source (class - 1)) (value_at source class bytes at)) refl)
+      pub class_needs : (m : ℕ) {r : ℕ} → r ≡ cond (in_range (class_range source (class - 1)) (value_at source class bytes at)) 0 (suc m) → Needs l clauses m k g r
+      class_needs m {r} e = rw e (go (in_range (class_range source (class - 1)) (value_at source class bytes at)) refl)
         where
           go : (t : Bool) → in_range (class_range source (class - 1)) (value_at source class bytes at) ≡ t → Needs l clauses m k g (cond t 0 (suc m))
-          go true q = needs_token l clauses source_apart k (class_range source (class - 1)) the-range g m _ (value-for g h.asked) q
-          go false q = needs_no_token l clauses source_apart k (class_range source (class - 1)) the-range g m _ (value-for g h.asked) q
+          go true q = needs_token l clauses source_apart k (class_range source (class - 1)) the_range g m _ (value_for g h.asked) q
+          go false q = needs_no_token l clauses source_apart k (class_range source (class - 1)) the_range g m _ (value_for g h.asked) q
 
   -- The names of any other kind.
   module _ (none_class : range_of l k ≡ none) (m : ℕ) where
-    pub zero-levels : m ≡ 0 → Needs l clauses m k g 1
-    zero-levels e = rw e (needs-zero l clauses h.setting.named k g none_class)
+    pub zero_levels : m ≡ 0 → Needs l clauses m k g 1
+    zero_levels e = rw e (needs-zero l clauses h.setting.named k g none_class)
 
-    pub all-names : (m ≡ 0 → ⊥) → (best : ℕ) (n : ℕ) → 256 ≤ n → n ≤ 256 → NeedsNamed l clauses (m - 1) k 0 n g best → Needs l clauses m k g (best + 1)
-    all-names e best n x y q =
+    pub all_names : (m ≡ 0 → ⊥) → (best : ℕ) (n : ℕ) → 256 ≤ n → n ≤ 256 → NeedsNamed l clauses (m - 1) k 0 n g best → Needs l clauses m k g (best + 1)
+    all_names e best n x y q =
         let a : suc (m - 1) ≡ m = omega arith in
         let b : best + 1 ≡ suc best = omega arith in
         let c : n ≡ 256 = omega arith in
@@ -169,7 +169,7 @@ module _ (table source target places kinds bytes memory free : List ℕ) (k at :
 
   pub keeps_true : (memory' free' : List ℕ) → Truthful f bytes memory' free' → (m r : ℕ) → m ≤ 16 → Needs l clauses m k g r
       → Truthful f bytes (memory_with memory' (length bytes) k at (noted m r)) (free_with free' (length bytes) k at (noted m r))
-  keeps_true memory' free' t m r few q = kept-true f bytes memory' free' k at h.kind t target_apart m r few g h.asked q
+  keeps_true memory' free' t m r few q = kept_true f bytes memory' free' k at h.kind t target_apart m r few g h.asked q
 
 -- The names come one by one.
 pub names_start : (l : Language) (f : Clauses) (m k : ℕ) (g : Goal) (name : ℕ) → (m ≡ 0 → ⊥) → Without l f k g 0 name → NeedsNamed l f (m - 1) k 0 name g m
@@ -223,8 +223,8 @@ module _ (table source target places kinds bytes memory free : List ℕ) (k at :
     place_of : place ≡ index_entry table (production_key k p)
     place_of = ep ∙ ap (index_entry table) ej
 
-    pub asks-match : (n : ℕ) → n ≡ length bytes → MatchAsks table target places kinds bytes memory (replicate 8 n) place clause at f k p ks g
-    asks-match n e = record {
+    pub asks_match : (n : ℕ) → n ≡ length bytes → MatchAsks table target places kinds bytes memory (replicate 8 n) place clause at f k p ks g
+    asks_match n e = record {
       targeted = h.setting.targeted;
       ends = h.truthful.ends;
       kind = h.kind;
@@ -238,12 +238,12 @@ module _ (table source target places kinds bytes memory free : List ℕ) (k at :
     }
 
     module _ (bound : List ℕ) (r : Bool) (w : MatchGives bytes bound r f k p ks g) where
-      pub name-unmatched : (m : ℕ) → r ≡ false → NeedsNamed f.source (clauses_of f) m k p (suc p) g (m + 1)
-      name-unmatched m e = let a : m + 1 ≡ suc m = omega arith in rw a (needs-unmatched f.source (clauses_of f) m k p ks g known (w.fails e))
+      pub name_unmatched : (m : ℕ) → r ≡ false → NeedsNamed f.source (clauses_of f) m k p (suc p) g (m + 1)
+      name_unmatched m e = let a : m + 1 ≡ suc m = omega arith in rw a (needs-unmatched f.source (clauses_of f) m k p ks g known (w.fails e))
 
       module _ (e : r ≡ true) where
-        pub name-seeks : SeeksAll table source target places kinds bytes memory free bound place f ks (w.holds e).0
-        name-seeks = record {
+        pub name_seeks : SeeksAll table source target places kinds bytes memory free bound place f ks (w.holds e).0
+        name_seeks = record {
           setting = h.setting;
           truthful = h.truthful;
           production = rw place_of (h.setting.targeted.ready.production k p ks h.kind narrow known);
@@ -251,14 +251,14 @@ module _ (table source target places kinds bytes memory free : List ℕ) (k at :
           asked = (w.holds e).1.at;
         }
 
-        pub name-needs : (m x : ℕ) → NeedsAll f.source (clauses_of f) m ks (w.holds e).0 x → NeedsNamed f.source (clauses_of f) m k p (suc p) g x
-        name-needs m x q = needs-node f.source (clauses_of f) k p ks g (w.holds e).0 known (w.holds e).2 m x q
+        pub name_needs : (m x : ℕ) → NeedsAll f.source (clauses_of f) m ks (w.holds e).0 x → NeedsNamed f.source (clauses_of f) m k p (suc p) g x
+        name_needs m x q = needs-node f.source (clauses_of f) k p ks g (w.holds e).0 known (w.holds e).2 m x q
 
     -- candidate: the root of the clause is another.
     module _ (bound : List ℕ) (w : MatchGives bytes bound false f k p ks g) where
-      pub without-next : (from next : ℕ) → p < next → next ≤ 256 → Unnamed table k (p + 1) next → Without f.source (clauses_of f) k g from p
+      pub without_next : (from next : ℕ) → p < next → next ≤ 256 → Unnamed table k (p + 1) next → Without f.source (clauses_of f) k g from p
           → Without f.source (clauses_of f) k g from next
-      without-next from next past few a b = record { none = λ q x s i o z. go q x s i o z (dec_le (suc q) p) (dec_le q p) }
+      without_next from next past few a b = record { none = λ q x s i o z. go q x s i o z (dec_le (suc q) p) (dec_le q p) }
         where
           go : (q x : ℕ) (s : Codes) → from ≤ q → q < next → Fits f.source (clauses_of f) (suc x) k g (node k q s) → Dec (suc q ≤ p) → Dec (q ≤ p) → ⊥
           go q x s i o z (yes d) e = b.none q x s i d z
@@ -288,16 +288,16 @@ module _ (table source target places kinds bytes memory free bound : List ℕ) (
   count_is e = (e ∙ h.production.count, h.production.few)
 
   module _ (j : ℕ) (q : j < length ks) where
-    pub kind-inside : {i : ℕ} → i ≡ place + 4 → i + j < 1024
-    kind-inside e = let x = h.production.kinds.inside in omega arith
+    pub kind_inside : {i : ℕ} → i ≡ place + 4 → i + j < 1024
+    kind_inside e = let x = h.production.kinds.inside in omega arith
 
-    pub operand-kind : {i k : ℕ} → i ≡ place + 4 → k ≡ source_byte table (i + j) → k ≡ get_or ks j 0
-    operand-kind d e = e ∙ (ap (λ (x : ℕ). source_byte table (x + j)) d ∙ kind_byte h.production.kinds j q)
+    pub operand_kind : {i k : ℕ} → i ≡ place + 4 → k ≡ source_byte table (i + j) → k ≡ get_or ks j 0
+    operand_kind d e = e ∙ (ap (λ (x : ℕ). source_byte table (x + j)) d ∙ kind_byte h.production.kinds j q)
 
-    pub operand-seeks : (memory' free' : List ℕ) → Truthful f bytes memory' free' → {i k : ℕ} → i ≡ place + 4 → k ≡ source_byte table (i + j)
+    pub operand_seeks : (memory' free' : List ℕ) → Truthful f bytes memory' free' → {i k : ℕ} → i ≡ place + 4 → k ≡ source_byte table (i + j)
         → Seeks table source target places kinds bytes memory' free' k (get_or bound j 0) f (b j)
-    operand-seeks memory' free' t {i} {k} d e =
-        let z : k ≡ get_or ks j 0 = operand-kind d e in
+    operand_seeks memory' free' t {i} {k} d e =
+        let z : k ≡ get_or ks j 0 = operand_kind d e in
         rw z (record { setting = h.setting; truthful = t; kind = h.production.kinds.below j q; asked = h.asked j q })
 
 module _ (l : Language) (f : Clauses) (m : ℕ) (ks : List ℕ) (b : ℕ → Goal) where
@@ -328,13 +328,13 @@ module _ (l : Language) (f : Clauses) (m : ℕ) (ks : List ℕ) (b : ℕ → Goa
   operands_stop j k x q e h past = record {
     bound = omega arith;
     finds = λ i. absurd (omega arith);
-    least = λ n t i w. let z = all-at n ks b t w j q in let y = h.least n z.0 i (rw (← e) at z.1) in omega arith;
+    least = λ n t i w. let z = all_at n ks b t w j q in let y = h.least n z.0 i (rw (← e) at z.1) in omega arith;
   }
     where
-      all-at : (n : ℕ) (ks : List ℕ) (b : ℕ → Goal) (t : Codes) → FitsAll l f n ks b t → (j : ℕ) → j < length ks → (a : Code) × Fits l f n (get_or ks j 0) (b j) a
-      all-at n [] b t w j q = absurd (omega arith)
-      all-at n (k ∷ ks) b t w zero q = let z = cons-fits l f n k ks b t w in (z.0, z.3)
-      all-at n (k ∷ ks) b t w (suc j) q = let z = cons-fits l f n k ks b t w in all-at n ks (λ i. b (suc i)) z.1 z.4 j (omega arith)
+      all_at : (n : ℕ) (ks : List ℕ) (b : ℕ → Goal) (t : Codes) → FitsAll l f n ks b t → (j : ℕ) → j < length ks → (a : Code) × Fits l f n (get_or ks j 0) (b j) a
+      all_at n [] b t w j q = absurd (omega arith)
+      all_at n (k ∷ ks) b t w zero q = let z = cons-fits l f n k ks b t w in (z.0, z.3)
+      all_at n (k ∷ ks) b t w (suc j) q = let z = cons-fits l f n k ks b t w in all_at n ks (λ i. b (suc i)) z.1 z.4 j (omega arith)
 
   pub operands_end : (j y : ℕ) → j ≡ 0 → NeedsAll l f m (drop j ks) (λ i. b (i + j)) y → NeedsAll l f m ks b y
   operands_end j y e q =

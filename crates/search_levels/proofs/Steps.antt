@@ -84,8 +84,8 @@ module _ (target places bytes memory bound : List ℕ) (kind to i : ℕ) (f : Tr
         within j w q (yes z) = rw z h.number
         within j w q (no z) = h.is.inside j w (sym (bind_other b i u nil nil j z) ∙ q)
 
-    pub argument-new : (e : ℕ) → e ≡ to + length (write tree u) → ArgumentGives bytes (set bound i to) to i e f ks b u
-    argument-new e d = record {
+    pub argument_new : (e : ℕ) → e ≡ to + length (write tree u) → ArgumentGives bytes (set bound i to) to i e f ks b u
+    argument_new e d = record {
       goes = λ n. (d, bind i u b, newly e d, λ cs us. step_new b i u cs us unbound);
       stops = λ z. let v = some_byte h.lies.typed in absurd (omega arith);
     }
@@ -95,8 +95,8 @@ module _ (target places bytes memory bound : List ℕ) (kind to i : ℕ) (f : Tr
     abbrev earlier : (w : Code) × (b i ≡ some w) × Lies f.target bytes (get_or bound i 0) (mapped f.body (get_or ks i 0) 0) w
     earlier = asked_tree (b i) (h.is.at i h.number) there
 
-    pub argument-starts : get_or bound i 0 ≤ to
-    argument-starts = let z = h.is.before i earlier.0 earlier.1 in omega arith
+    pub argument_starts : get_or bound i 0 ≤ to
+    argument_starts = let z = h.is.before i earlier.0 earlier.1 in omega arith
 
     target_apart : Rattle.tree_reader.proofs.RoundTrip.Apart f.target
     target_apart = apart f.target h.target-index.apart
@@ -114,9 +114,9 @@ module _ (target places bytes memory bound : List ℕ) (kind to i : ℕ) (f : Tr
           stops = λ x. let v = some_byte h.lies.typed in absurd (omega arith);
         }
 
-    pub argument-other : (e : ℕ) → e ≡ to + length (write tree u) → (take (e - to) (drop (get_or bound i 0) bytes) ≡ take (e - to) (drop to bytes) → ⊥)
+    pub argument_other : (e : ℕ) → e ≡ to + length (write tree u) → (take (e - to) (drop (get_or bound i 0) bytes) ≡ take (e - to) (drop to bytes) → ⊥)
         → ArgumentGives bytes bound to i 0 f ks b u
-    argument-other e d q =
+    argument_other e d q =
         let n : e - to ≡ length (write tree u) = omega arith in
         record {
           goes = λ x. absurd (x refl);

@@ -65,8 +65,8 @@ module _ (f : Translation) (tree memory free : List ℕ) (k at : ℕ) (small : k
     abbrev byte : ℕ
     byte = noted m r
 
-    keep-free : length tree ≤ at → Needs f.source (clauses_of f) m k none r → Truthful f tree memory (set free k byte)
-    keep-free past h = record {
+    keep_free : length tree ≤ at → Needs f.source (clauses_of f) m k none r → Truthful f tree memory (set free k byte)
+    keep_free past h = record {
       ends = truth.ends;
       long = length-set free k byte ∙ truth.long;
       kept = truth.kept;
@@ -77,9 +77,9 @@ module _ (f : Translation) (tree memory free : List ℕ) (k at : ℕ) (small : k
         go j q (yes e) = rw (e, get_or-set_same free k byte 0 (let z = truth.long in omega arith)) (noted_says m r few h)
         go j q (no n) = rw (get_or-set_other free k j byte 0 n) (truth.spare j q)
 
-    keep-there : (u : Code) → Asked f tree at k (some u) → at < length memory / 36 → Needs f.source (clauses_of f) m k (some u) r
+    keep_there : (u : Code) → Asked f tree at k (some u) → at < length memory / 36 → Needs f.source (clauses_of f) m k (some u) r
         → Truthful f tree (set memory (at * 36 + (4 + k)) byte) free
-    keep-there u a room h = record { ends = ends_still f.target tree memory at k byte small truth.ends; long = truth.long; kept = λ p j w q d. go p j w q d (ℕ_discrete (p * 36 + (4 + j)) (at * 36 + (4 + k))); spare = truth.spare }
+    keep_there u a room h = record { ends = ends_still f.target tree memory at k byte small truth.ends; long = truth.long; kept = λ p j w q d. go p j w q d (ℕ_discrete (p * 36 + (4 + j)) (at * 36 + (4 + k))); spare = truth.spare }
       where
         same : (p j : ℕ) (w : Code) → p ≡ at → j ≡ k → Asked f tree p j (some w) → Says f.source (clauses_of f) j (some w) byte
         same p j w e d b =
@@ -93,15 +93,15 @@ module _ (f : Translation) (tree memory free : List ℕ) (k at : ℕ) (small : k
             rw (e, get_or-set_same memory (at * 36 + (4 + k)) byte 0 (omega arith)) (same p j w (omega arith) (omega arith) d)
         go p j w q d (no n) = rw (get_or-set_other memory (at * 36 + (4 + k)) (p * 36 + (4 + j)) byte 0 n) (truth.kept p j w q d)
 
-    pub kept-true : (g : Goal) → Asked f tree at k g → Needs f.source (clauses_of f) m k g r
+    pub kept_true : (g : Goal) → Asked f tree at k g → Needs f.source (clauses_of f) m k g r
         → Truthful f tree (memory_with memory (length tree) k at byte) (free_with free (length tree) k at byte)
     unfolding memory_with free_with
-    kept-true none a h = rw (le-leb (length tree) at a) (keep-free a h)
-    kept-true (some u) a h = rw (lt-leb (length tree) at a.0) (go (leb (length memory / 36) at) refl)
+    kept_true none a h = rw (le-leb (length tree) at a) (keep_free a h)
+    kept_true (some u) a h = rw (lt-leb (length tree) at a.0) (go (leb (length memory / 36) at) refl)
       where
         go : (t : Bool) → leb (length memory / 36) at ≡ t → Truthful f tree (cond t memory (set memory (at * 36 + (4 + k)) byte)) free
         go true e = truth
-        go false e = keep-there u a (leb-false (length memory / 36) at e) h
+        go false e = keep_there u a (leb-false (length memory / 36) at e) h
 
 -- The lengths stay.
 pub kept_long : (memory free : List ℕ) (n k at byte : ℕ)

@@ -72,22 +72,22 @@ module _ (table target places kinds bytes memory bound : List ℕ) (place c stop
 
   -- An argument.
   module _ (sign : body_byte table c ≡ 3) where
-    pub argument-next : ArgumentHead table bytes c stop to f given cs us
-    argument-next = go view
+    pub argument_next : ArgumentHead table bytes c stop to f given cs us
+    argument_next = go view
       where
         go : View → ArgumentHead table bytes c stop to f given cs us
         go (inl n) = let y = n.sign in absurd (omega arith)
         go (inr (inl n)) = let y = n.sign in absurd (omega arith)
         go (inr (inr n)) = n
 
-    pub number_there : (argument-next.number < length ks) × (argument-next.kind ≡ mapped f.body (get_or ks argument-next.number 0) 0)
-    number_there = mapped_at f.body ks argument-next.number argument-next.kind argument-next.given_at
+    pub number_there : (argument_next.number < length ks) × (argument_next.kind ≡ mapped f.body (get_or ks argument_next.number 0) 0)
+    number_there = mapped_at f.body ks argument_next.number argument_next.kind argument_next.given_at
 
-    pub number_is : {m : ℕ} → m ≡ body_byte table (c + 1) → m - 1 ≡ argument-next.number
-    number_is e = let y = argument-next.byte in omega arith
+    pub number_is : {m : ℕ} → m ≡ body_byte table (c + 1) → m - 1 ≡ argument_next.number
+    number_is e = let y = argument_next.byte in omega arith
 
     pub number_some : {m : ℕ} → m ≡ body_byte table (c + 1) → 1 ≤ m
-    number_some e = let y = argument-next.byte in omega arith
+    number_some e = let y = argument_next.byte in omega arith
 
     pub place_inside : {m : ℕ} → m ≡ body_byte table (c + 1) → place + 4 + (m - 1) < 1024
     place_inside e =
@@ -97,18 +97,18 @@ module _ (table target places kinds bytes memory bound : List ℕ) (place c stop
         omega arith
 
     kind_there : {m x y : ℕ} → m ≡ body_byte table (c + 1) → x ≡ source_byte table (place + 4 + (m - 1)) → y ≡ get_or kinds x 0
-        → y ≡ mapped f.body (get_or ks argument-next.number 0) 0
+        → y ≡ mapped f.body (get_or ks argument_next.number 0) 0
     kind_there {m} {x} {y} e d q =
         let n = number_is e in
         let i = number_there.0 in
-        let k : x ≡ get_or ks argument-next.number 0 =
-        d ∙ (ap (λ (j : ℕ). source_byte table (place + 4 + j)) n ∙ kind_byte h.production.kinds argument-next.number i) in
-        let low : get_or ks argument-next.number 0 < 32 = h.production.kinds.below argument-next.number i in
-        q ∙ (ap (λ (j : ℕ). get_or kinds j 0) k ∙ h.targeted.maps (get_or ks argument-next.number 0) low)
+        let k : x ≡ get_or ks argument_next.number 0 =
+        d ∙ (ap (λ (j : ℕ). source_byte table (place + 4 + j)) n ∙ kind_byte h.production.kinds argument_next.number i) in
+        let low : get_or ks argument_next.number 0 < 32 = h.production.kinds.below argument_next.number i in
+        q ∙ (ap (λ (j : ℕ). get_or kinds j 0) k ∙ h.targeted.maps (get_or ks argument_next.number 0) low)
 
-    pub argument-asks : {m x y : ℕ} → m ≡ body_byte table (c + 1) → x ≡ source_byte table (place + 4 + (m - 1)) → y ≡ get_or kinds x 0
-        → ArgumentAsks target places bytes memory bound y to (m - 1) f ks b argument-next.subtree
-    argument-asks {m} {x} {y} e d q =
+    pub argument_asks : {m x y : ℕ} → m ≡ body_byte table (c + 1) → x ≡ source_byte table (place + 4 + (m - 1)) → y ≡ get_or kinds x 0
+        → ArgumentAsks target places bytes memory bound y to (m - 1) f ks b argument_next.subtree
+    argument_asks {m} {x} {y} e d q =
         let n = number_is e in
         let k = kind_there e d q in
         rw n (record {
@@ -118,35 +118,35 @@ module _ (table target places kinds bytes memory bound : List ℕ) (place c stop
           number = number_there.0;
           few = h.production.few;
           kind_is = k;
-          lies = rw (k ∙ sym number_there.1) argument-next.lies;
+          lies = rw (k ∙ sym number_there.1) argument_next.lies;
         })
 
-    pub argument-step : {m r : ℕ} {after : List ℕ} → m ≡ body_byte table (c + 1)
-        → ArgumentGives bytes after to (m - 1) r f ks b argument-next.subtree → StepGives table bytes after c stop r f ks cs us b
-    argument-step {m} {r} {after} e g = go (rw (number_is e) at g)
+    pub argument_step : {m r : ℕ} {after : List ℕ} → m ≡ body_byte table (c + 1)
+        → ArgumentGives bytes after to (m - 1) r f ks b argument_next.subtree → StepGives table bytes after c stop r f ks cs us b
+    argument_step {m} {r} {after} e g = go (rw (number_is e) at g)
       where
         wide : c + 2 ≡ c + width (body_byte table c)
         wide = ap (λ (n : ℕ). c + n) (width_other (body_byte table c) (λ z. omega arith))
 
-        go : ArgumentGives bytes after to argument-next.number r f ks b argument-next.subtree → StepGives table bytes after c stop r f ks cs us b
+        go : ArgumentGives bytes after to argument_next.number r f ks b argument_next.subtree → StepGives table bytes after c stop r f ks cs us b
         go q = record {
           goes = λ n.
               let z = q.goes n in (
-                argument-next.kinds,
-                argument-next.codes,
-                argument-next.trees,
+                argument_next.kinds,
+                argument_next.codes,
+                argument_next.trees,
                 z.1,
-                rw (← wide, z.0) argument-next.next,
+                rw (← wide, z.0) argument_next.next,
                 z.2,
-                alike_of argument-next.cs_is argument-next.us_is (z.3 argument-next.codes argument-next.trees),
+                alike_of argument_next.cs_is argument_next.us_is (z.3 argument_next.codes argument_next.trees),
               );
-          stops = λ n s y. q.stops n argument-next.codes argument-next.trees s (solves_of argument-next.cs_is argument-next.us_is y);
+          stops = λ n s y. q.stops n argument_next.codes argument_next.trees s (solves_of argument_next.cs_is argument_next.us_is y);
         }
 
   -- A name, or the first byte of a token, that differs.
   module _ (plain : body_byte table c ≡ 3 → ⊥) where
-    pub first-differs : (body_byte table (c + 1) ≡ get_or bytes to 0 → ⊥) → StepGives table bytes bound c stop 0 f ks cs us b
-    first-differs d = record { goes = λ n. absurd (n refl); stops = λ n s y. go s y view }
+    pub first_differs : (body_byte table (c + 1) ≡ get_or bytes to 0 → ⊥) → StepGives table bytes bound c stop 0 f ks cs us b
+    first_differs d = record { goes = λ n. absurd (n refl); stops = λ n s y. go s y view }
       where
         go : (s : Replacing) → Solves b cs us s → View → ⊥
         go s y (inl n) = n.other d s y
@@ -157,8 +157,8 @@ module _ (table target places kinds bytes memory bound : List ℕ) (place c stop
     later r i = record { long = h.is.long; at = h.is.at; before = λ j w q. let z = h.is.before j w q in omega arith; inside = h.is.inside }
 
     module _ (first : body_byte table (c + 1) ≡ get_or bytes to 0) where
-      pub name-step : (body_byte table c ≡ 2 → ⊥) → StepGives table bytes bound c stop (to + 1) f ks cs us b
-      name-step other = record { goes = λ n. go view; stops = λ n. absurd (omega arith) }
+      pub name_step : (body_byte table c ≡ 2 → ⊥) → StepGives table bytes bound c stop (to + 1) f ks cs us b
+      name_step other = record { goes = λ n. go view; stops = λ n. absurd (omega arith) }
         where
           wide : c + 2 ≡ c + width (body_byte table c)
           wide = ap (λ (n : ℕ). c + n) (width_other (body_byte table c) other)
@@ -170,24 +170,24 @@ module _ (table target places kinds bytes memory bound : List ℕ) (place c stop
           go (inr (inr n)) = absurd (plain n.sign)
 
       module _ (token : body_byte table c ≡ 2) where
-        pub token-inside : c + 2 < 4096
-        token-inside = let x = h.row.inside in go x view
+        pub token_inside : c + 2 < 4096
+        token_inside = let x = h.row.inside in go x view
           where
             go : stop ≤ 4096 → View → c + 2 < 4096
             go x (inl n) = let y = n.sign in absurd (omega arith)
             go x (inr (inl n)) = let y = n.room in omega arith
             go x (inr (inr n)) = let y = n.sign in absurd (omega arith)
 
-        pub second-differs : (body_byte table (c + 2) ≡ get_or bytes (to + 1) 0 → ⊥) → StepGives table bytes bound c stop 0 f ks cs us b
-        second-differs d = record { goes = λ n. absurd (n refl); stops = λ n s y. go s y view }
+        pub second_differs : (body_byte table (c + 2) ≡ get_or bytes (to + 1) 0 → ⊥) → StepGives table bytes bound c stop 0 f ks cs us b
+        second_differs d = record { goes = λ n. absurd (n refl); stops = λ n s y. go s y view }
           where
             go : (s : Replacing) → Solves b cs us s → View → ⊥
             go s y (inl n) = let z = n.sign in omega arith
             go s y (inr (inl n)) = n.low d s y
             go s y (inr (inr n)) = plain n.sign
 
-        pub token-step : body_byte table (c + 2) ≡ get_or bytes (to + 1) 0 → StepGives table bytes bound c stop (to + 2) f ks cs us b
-        token-step second = record { goes = λ n. go view; stops = λ n. absurd (omega arith) }
+        pub token_step : body_byte table (c + 2) ≡ get_or bytes (to + 1) 0 → StepGives table bytes bound c stop (to + 2) f ks cs us b
+        token_step second = record { goes = λ n. go view; stops = λ n. absurd (omega arith) }
           where
             wide : c + 3 ≡ c + width (body_byte table c)
             wide = ap (λ (n : ℕ). c + n) (width_token (body_byte table c) token)

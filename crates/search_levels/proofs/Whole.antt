@@ -11,7 +11,7 @@ use Rattle.format_fields.proofs.Truth.{none_some, false_true, both_and, is_some_
 use Rattle.format_language.specs.Language.{production_key, is_in}
 use Rattle.format_language.proofs.Lookup.{arguments_mem, result_in}
 use Rattle.tree_reader.specs.Code.{Code, node, token, argument, Codes, nil, cons, levels}
-use Rattle.tree_reader.specs.Typing.{Typed, TypedAll, typed-nil, typed-cons}
+use Rattle.tree_reader.specs.Typing.{Typed, TypedAll, typed_nil, typed_cons}
 use Rattle.tree_reader.specs.Syntax.{write, write_all, tree, code}
 use Rattle.format_translation.specs.Translation.{Translation, mapping_of, mapped}
 use Rattle.format_translation.specs.Running.{clauses_of}
@@ -34,7 +34,7 @@ row_one f bytes at k u h =
       rest = h.rest;
       is = h.is ∙ ap (λ (v : List ℕ). v ++ h.rest) (sym (append-nil (write tree u)));
       inside = h.inside;
-      typed = typed-cons h.typed typed-nil;
+      typed = typed_cons h.typed typed_nil;
       within = omega arith;
       known = both_and (is_in f.target k) true h.known refl;
     }
@@ -90,15 +90,15 @@ module _ (table target places kinds bytes memory bound : List ℕ) (place clause
         → Pending table bytes (clause + 4) stop at f (map (mapping_of f.body) ks) (mapped f.body k 0 ∷ []) (cons (clauses_of f k p 0) nil) (cons u nil)
     unfolding write
     whole_row u l = record {
-      codes = typed-cons typed_code typed-nil;
+      codes = typed_cons typed_code typed_nil;
       stands = rw (append-nil (write code (clauses_of f k p 0))) the_clause.stands;
       ends = ends ∙ ap (λ (v : List ℕ). clause + 4 + length v) (sym (append-nil (write code (clauses_of f k p 0))));
       inside = let x = the_clause.inside in let y = ends in omega arith;
       trees = row_one f bytes at (mapped f.body k 0) u l;
     }
 
-    pub match-start : Going table bytes bound (clause + 4) stop at f k p ks g
-    match-start = go g h.asked
+    pub match_start : Going table bytes bound (clause + 4) stop at f k p ks g
+    match_start = go g h.asked
       where
         go : (g : Goal) → Asked f bytes at k g → Going table bytes bound (clause + 4) stop at f k p ks g
         go none a = absurd (omega arith)
@@ -116,26 +116,26 @@ module _ (table target places kinds bytes memory bound : List ℕ) (place clause
 
   -- A turn.
   module _ (now : List ℕ) (c stop to : ℕ) (w : Going table bytes now c stop to f k p ks g) where
-    pub going-inside : stop ≤ 4096
-    going-inside = w.row.inside
+    pub going_inside : stop ≤ 4096
+    going_inside = w.row.inside
 
-    pub match-step : c < stop → StepAsks table target places kinds bytes memory now place c stop to f ks w.kinds w.codes w.trees w.so_far
-    match-step more = record { targeted = h.targeted; ends = h.ends; production = production; row = w.row; is = w.is; more = more }
+    pub match_step : c < stop → StepAsks table target places kinds bytes memory now place c stop to f ks w.kinds w.codes w.trees w.so_far
+    match_step more = record { targeted = h.targeted; ends = h.ends; production = production; row = w.row; is = w.is; more = more }
 
     module _ (after : List ℕ) (r : ℕ) (s : StepGives table bytes after c stop r f ks w.codes w.trees w.so_far) where
-      pub match-stops : r ≡ 0 → MatchGives bytes after false f k p ks g
-      match-stops e = record {
+      pub match_stops : r ≡ 0 → MatchGives bytes after false f k p ks g
+      match_stops e = record {
         holds = λ z. false_true z;
         fails = λ z t q m.
             unmatched f.source (clauses_of f) k p ks w.goal w.so_far w.codes w.trees w.alike (s.stops e) t q
-            (meets-of g (some w.goal) (node k p t) w.goal_is m);
+            (meets_of g (some w.goal) (node k p t) w.goal_is m);
       }
         where
-          meets-of : (x y : Goal) (t : Code) → x ≡ y → Meets (clauses_of f) x t → Meets (clauses_of f) y t
-          meets-of x y t e q = rw e at q
+          meets_of : (x y : Goal) (t : Code) → x ≡ y → Meets (clauses_of f) x t → Meets (clauses_of f) y t
+          meets_of x y t e q = rw e at q
 
-      pub match-next : (r ≡ 0 → ⊥) → {n : ℕ} → n ≡ width (body_byte table c) → Going table bytes after (c + n) stop r f k p ks g
-      match-next e {n} d =
+      pub match_next : (r ≡ 0 → ⊥) → {n : ℕ} → n ≡ width (body_byte table c) → Going table bytes after (c + n) stop r f k p ks g
+      match_next e {n} d =
           let z = s.goes e in
           record {
             goal = w.goal;
@@ -150,11 +150,11 @@ module _ (table target places kinds bytes memory bound : List ℕ) (place clause
           }
 
     -- Nothing is left.
-    row-over : {js : List ℕ} {cs us : Codes} → TypedAll f.target (map (mapping_of f.body) ks) cs js → TypedAll f.target [] us js
+    row_over : {js : List ℕ} {cs us : Codes} → TypedAll f.target (map (mapping_of f.body) ks) cs js → TypedAll f.target [] us js
         → length (write_all code cs) ≡ 0 → (cs ≡ nil) × (us ≡ nil)
     unfolding write
-    row-over typed-nil typed-nil e = (refl, refl)
-    row-over (typed-cons {a = a} {t = t} x xs) y e = absurd (some_code a (write_all code t) e)
+    row_over typed_nil typed_nil e = (refl, refl)
+    row_over (typed_cons {a = a} {t = t} x xs) y e = absurd (some_code a (write_all code t) e)
       where
         some_code : (a : Code) (v : List ℕ) → length (write code a ++ v) ≡ 0 → ⊥
         some_code (node j q t) v e = omega arith
@@ -162,18 +162,18 @@ module _ (table target places kinds bytes memory bound : List ℕ) (place clause
         some_code (argument i zero) v e = omega arith
         some_code (argument i (suc j)) v e = omega arith
 
-    pub match-done : stop ≤ c → MatchGives bytes now true f k p ks g
-    match-done e =
-        let z = row-over w.row.codes w.row.trees.typed (let x = w.row.ends in omega arith) in
-        record { holds = λ y. (w.so_far, whole w.is, goal-of w.goal_is (all_of z.0 z.1 w.alike)); fails = λ y. false_true (sym y) }
+    pub match_done : stop ≤ c → MatchGives bytes now true f k p ks g
+    match_done e =
+        let z = row_over w.row.codes w.row.trees.typed (let x = w.row.ends in omega arith) in
+        record { holds = λ y. (w.so_far, whole w.is, goal_of w.goal_is (all_of z.0 z.1 w.alike)); fails = λ y. false_true (sym y) }
       where
         all_of : {d : ℕ → Goal} {cs us : Codes} → cs ≡ nil → us ≡ nil → Alike nothing_bound (cons (clauses_of f k p 0) nil) (cons w.goal nil) d cs us
             → Alike nothing_bound (cons (clauses_of f k p 0) nil) (cons w.goal nil) d nil nil
         all_of x y q = rw (x, y) at q
 
-        goal-of : {y : Goal} → y ≡ some w.goal → Alike nothing_bound (cons (clauses_of f k p 0) nil) (cons w.goal nil) w.so_far nil nil
+        goal_of : {y : Goal} → y ≡ some w.goal → Alike nothing_bound (cons (clauses_of f k p 0) nil) (cons w.goal nil) w.so_far nil nil
             → Matches f.source (clauses_of f) k p ks y w.so_far
-        goal-of e q = rw e (matched f.source (clauses_of f) k p ks w.goal w.so_far w.is.inside q)
+        goal_of e q = rw e (matched f.source (clauses_of f) k p ks w.goal w.so_far w.is.inside q)
 
         whole : Bound f bytes now to ks w.so_far → Bound f bytes now (length bytes) ks w.so_far
         whole q =

@@ -49,15 +49,15 @@ module _ (table source target places kinds bytes memory free : List ℕ) (k : �
       h.setting.targeted.has_zero limit k u h.asked.1.typed e
 
   module _ (needed : ℕ) (n : Needs f.source (clauses_of f) limit k (some u) needed) where
-    searched-none : limit < needed → search_of f limit k bytes ≡ none
-    searched-none past = go (search_of f limit k (write tree u)) refl
+    searched_none : limit < needed → search_of f limit k bytes ≡ none
+    searched_none past = go (search_of f limit k (write tree u)) refl
       where
         go : (x : Option (List ℕ)) → search_of f limit k (write tree u) ≡ x → search_of f limit k bytes ≡ none
         go none e = ap (search_of f limit k) w.whole ∙ e
         go (some v) e = let t = first_by v e in let z = n.least limit t.0 (omega arith) t.1.fits in absurd (omega arith)
 
-    pub the-first : needed ≤ limit → (t : Code) × First f.source (clauses_of f) limit k (some u) t × (search_of f limit k bytes ≡ some (write tree t))
-    the-first within = go (search_of f limit k (write tree u)) refl
+    pub the_first : needed ≤ limit → (t : Code) × First f.source (clauses_of f) limit k (some u) t × (search_of f limit k bytes ≡ some (write tree t))
+    the_first within = go (search_of f limit k (write tree u)) refl
       where
         go : (x : Option (List ℕ)) → search_of f limit k (write tree u) ≡ x
             → (t : Code) × First f.source (clauses_of f) limit k (some u) t × (search_of f limit k bytes ≡ some (write tree t))
@@ -66,34 +66,34 @@ module _ (table source target places kinds bytes memory free : List ℕ) (k : �
 
     pub find_none : (o : List ℕ) (out : Outcome) → limit < needed → out ≡ Refused NoSource → Answers (found_in f k bytes limit (length o)) o o out
     unfolding found_in
-    find_none o out past e = rw (searched-none past) (record { answer = e; left = refl })
+    find_none o out past e = rw (searched_none past) (record { answer = e; left = refl })
 
     module _ (within : needed ≤ limit) (o : List ℕ) (m : ℕ) (spare spare' : List ℕ)
         (p : (t : Code) → First f.source (clauses_of f) limit k (some u) t → Puts (length o + 1) (write tree t) spare spare' 0 m) where
-      abbrev first-bytes : List ℕ
-      first-bytes = write tree (the-first within).0
+      abbrev first_bytes : List ℕ
+      first_bytes = write tree (the_first within).0
 
-      measured : m ≡ min (length o + 1) (0 + length first-bytes)
-      measured = (p (the-first within).0 (the-first within).1).to
+      measured : m ≡ min (length o + 1) (0 + length first_bytes)
+      measured = (p (the_first within).0 (the_first within).1).to
 
-      pub find-long : (out : Outcome) → length o < m → out ≡ Refused OutputTooShort → Answers (found_in f k bytes limit (length o)) o o out
+      pub find_long : (out : Outcome) → length o < m → out ≡ Refused OutputTooShort → Answers (found_in f k bytes limit (length o)) o o out
       unfolding found_in
-      find-long out past e =
+      find_long out past e =
           let x = measured in
-          let l : length o < length first-bytes = omega arith in
-          rw ((the-first within).2, lt-ltb (length o) (length first-bytes) l) (record { answer = e; left = refl })
+          let l : length o < length first_bytes = omega arith in
+          rw ((the_first within).2, lt-ltb (length o) (length first_bytes) l) (record { answer = e; left = refl })
 
-      pub find-there : (out : Outcome) (r : ℕ) (after : List ℕ) → m ≤ length o
+      pub find_there : (out : Outcome) (r : ℕ) (after : List ℕ) → m ≤ length o
           → ((t : Code) → First f.source (clauses_of f) limit k (some u) t → Puts (length o + 1) (write tree t) o after 0 r)
           → out ≡ Accepted m → Answers (found_in f k bytes limit (length o)) o after out
       unfolding found_in spliced
-      find-there out r after fits q e =
+      find_there out r after fits q e =
           let x = measured in
-          let y = q (the-first within).0 (the-first within).1 in
+          let y = q (the_first within).0 (the_first within).1 in
           let z = y.to in
-          let l : length first-bytes ≤ length o = omega arith in
-          let d : m ≡ length first-bytes = omega arith in
-          let a : 0 + length first-bytes ≡ length first-bytes = omega arith in
+          let l : length first_bytes ≤ length o = omega arith in
+          let d : m ≡ length first_bytes = omega arith in
+          let a : 0 + length first_bytes ≡ length first_bytes = omega arith in
           let s = y.is (omega arith) (omega arith) in
-          rw ((the-first within).2, le-ltb (length o) (length first-bytes) l)
-          (record { answer = e ∙ ap Accepted d; left = s ∙ ap (λ (i : ℕ). first-bytes ++ drop i o) a })
+          rw ((the_first within).2, le-ltb (length o) (length first_bytes) l)
+          (record { answer = e ∙ ap Accepted d; left = s ∙ ap (λ (i : ℕ). first_bytes ++ drop i o) a })

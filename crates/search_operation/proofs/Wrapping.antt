@@ -38,7 +38,7 @@ use Rattle.format_translation.proofs.Cuts.{pieces_in, body_in_short}
 use Rattle.format_translation.proofs.Accepted.{refused_not}
 use Rattle.format_translation.proofs.Codec.{translation_whole, rises_parts}
 use Rattle.check_operations.proofs.Legal as Legal
-use Rattle.check_operations.proofs.Legal.{tree_right, accepted_tree, refused-tree}
+use Rattle.check_operations.proofs.Legal.{tree_right, accepted_tree, refused_tree}
 use Rattle.format_translation.proofs.Preserved.{Carries}
 use Rattle.format_translation.proofs.Fitting.{fit_carries}
 use Rattle.format_translation.proofs.Lookup.{mem_mapping, mem_mapped}
@@ -144,30 +144,30 @@ module _ (source target body kinds bytes : List ℕ) (k limit : ℕ) (f : Transl
   pub stage_refused : (r : Reason) → c ≡ Refused r → ready_in f k bytes limit ≡ refused r
   unfolding ready_in
   stage_refused r h =
-      let q = refused-tree target root bytes (λ l u. refuse_if (not (is_limit limit)) LimitOutOfRange (value f)) {r = r} (sym told ∙ h) in
+      let q = refused_tree target root bytes (λ l u. refuse_if (not (is_limit limit)) LimitOutOfRange (value f)) {r = r} (sym told ∙ h) in
       rw (target_language z, root_mapped) at q
 
   module _ (n : ℕ) (h : c ≡ Accepted n) where
     abbrev checked : Legal.Checked target root bytes
     checked = accepted_tree target root bytes (sym told ∙ h)
 
-    same-language : checked.language ≡ f.target
-    same-language = value_inj (sym checked.is ∙ target_language z)
+    same_language : checked.language ≡ f.target
+    same_language = value_inj (sym checked.is ∙ target_language z)
 
     pub tree_is : tree_of f.target (mapped f.body k 0) bytes ≡ value checked.subject
-    tree_is = ap (λ (l : Language). tree_of l (mapped f.body k 0) bytes) (sym same-language) ∙ (ap (λ (j : ℕ). tree_of checked.language j bytes) (sym root_mapped) ∙ checked.tree_is)
+    tree_is = ap (λ (l : Language). tree_of l (mapped f.body k 0) bytes) (sym same_language) ∙ (ap (λ (j : ℕ). tree_of checked.language j bytes) (sym root_mapped) ∙ checked.tree_is)
 
-    pub limit-refused : is_limit limit ≡ false → ready_in f k bytes limit ≡ refused LimitOutOfRange
+    pub limit_refused : is_limit limit ≡ false → ready_in f k bytes limit ≡ refused LimitOutOfRange
     unfolding ready_in
-    limit-refused e = rw (tree_is, e)
+    limit_refused e = rw (tree_is, e)
 
-    pub stage-passed : is_limit limit ≡ true → ready_in f k bytes limit ≡ value f
+    pub stage_passed : is_limit limit ≡ true → ready_in f k bytes limit ≡ value f
     unfolding ready_in
-    stage-passed e = rw (tree_is, e)
+    stage_passed e = rw (tree_is, e)
 
-    pub stage-placed : (places : List ℕ) → ((i : ℕ) → get_or bytes i 0 < 256)
+    pub stage_placed : (places : List ℕ) → ((i : ℕ) → get_or bytes i 0 < 256)
         → ((n : ℕ) (l : Language) → c ≡ Accepted n → entries_of target ≡ some l → Indexed places target l) → Placed target places bytes k f checked.subject
-    stage-placed places narrow indexed =
+    stage_placed places narrow indexed =
         let r = tree_right f.target (mapped f.body k 0) bytes checked.subject tree_is in
         let e = (r.1.2 (bytes_from bytes (λ i q. narrow i))).0 in
         record {
@@ -254,11 +254,11 @@ module _ (s : List ℕ) (root : ℕ) (bytes : List ℕ) (limit : ℕ) (workspace
       go (refused x) e d = rw e (cc)
 
   module _ (f : Translation) (is : translation_of s ≡ value f) where
-    pub search-numbered : plain f.body ≡ false → out ≡ Refused NumberUnfit → AsSearched s root bytes limit workspace workspace o o out
+    pub search_numbered : plain f.body ≡ false → out ≡ Refused NumberUnfit → AsSearched s root bytes limit workspace workspace o o out
     unfolding ready
-    search-numbered e i = as_leaves o workspace (leaves_refused (ready s root bytes limit) root bytes limit o workspace out NumberUnfit (rw (is, e)) i)
+    search_numbered e i = as_leaves o workspace (leaves_refused (ready s root bytes limit) root bytes limit o workspace out NumberUnfit (rw (is, e)) i)
 
-    pub search-plain : (after left : List ℕ) → plain f.body ≡ true → Leaves (ready_from f root bytes limit) root bytes limit o after workspace left out
+    pub search_plain : (after left : List ℕ) → plain f.body ≡ true → Leaves (ready_from f root bytes limit) root bytes limit o after workspace left out
         → AsSearched s root bytes limit workspace left o after out
     unfolding ready ready_from ready_in
-    search-plain after left e h = as_leaves after left (rw (is, e) h)
+    search_plain after left e h = as_leaves after left (rw (is, e) h)

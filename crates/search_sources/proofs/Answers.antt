@@ -8,7 +8,7 @@ use native.Mathlib.Omega.{arith}
 use Rattle.format_fields.proofs.Truth.{none_some, some_inj}
 use Rattle.format_language.specs.Language.{Language, Range, range_of, arguments_of, in_range}
 use Rattle.tree_reader.specs.Code.{Code, node, token, argument, Codes, nil, cons, levels, levels_all}
-use Rattle.tree_reader.specs.Typing.{kind_at, Typed, TypedAll, typed-node, typed-token, typed-argument, typed-nil, typed-cons}
+use Rattle.tree_reader.specs.Typing.{kind_at, Typed, TypedAll, typed_node, typed_token, typed_argument, typed_nil, typed_cons}
 use Rattle.format_translation.specs.Running.{Clauses, run}
 use Rattle.search_sources.specs.Inner.Order.{UptoAll}
 use Rattle.search_sources.specs.Inner.Goals.{Goal, Meets, MeetsAll, Fits, FitsAll, First, FirstAll, Matches}
@@ -33,7 +33,7 @@ module _ (l : Language) (f : Clauses) (n : ℕ) where
       → FitsAll l f n (k ∷ ks) g (cons a t)
   unfolding levels
   fits-cons k ks g a t h hs =
-      record { legal = typed-cons h.legal hs.legal; within = omega (arith, h.within, hs.within); meets = (h.meets, hs.meets) }
+      record { legal = typed_cons h.legal hs.legal; within = omega (arith, h.within, hs.within); meets = (h.meets, hs.meets) }
 
   pub cons-fits : (k : ℕ) (ks : List ℕ) (g : ℕ → Goal) (t : Codes) → FitsAll l f n (k ∷ ks) g t
       → (a : Code) × (r : Codes) × (t ≡ cons a r) × Fits l f n k (g 0) a × FitsAll l f n ks (λ j. g (suc j)) r
@@ -42,7 +42,7 @@ module _ (l : Language) (f : Clauses) (n : ℕ) where
     where
       go : {t : Codes} → TypedAll l [] t (k ∷ ks) → levels_all t ≤ n → MeetsAll f (k ∷ ks) g t
           → (a : Code) × (r : Codes) × (t ≡ cons a r) × Fits l f n k (g 0) a × FitsAll l f n ks (λ j. g (suc j)) r
-      go (typed-cons {a = a} {t = r} q qs) w m =
+      go (typed_cons {a = a} {t = r} q qs) w m =
           (a, r, refl, record { legal = q; within = omega arith; meets = m.0 }, record { legal = qs; within = omega arith; meets = m.1 })
 
   -- The first operands are each the first of its own.
@@ -60,16 +60,16 @@ module _ (l : Language) (f : Clauses) (n : ℕ) where
 
   pub nil-first : (g : ℕ → Goal) → FirstAll l f n [] g nil
   unfolding levels
-  nil-first g = record { fits = record { legal = typed-nil; within = omega arith; meets = tt }; least = λ s q. nothing q.legal }
+  nil-first g = record { fits = record { legal = typed_nil; within = omega arith; meets = tt }; least = λ s q. nothing q.legal }
     where
       nothing : {t : Codes} → TypedAll l [] t [] → UptoAll nil t
-      nothing typed-nil = inl refl
+      nothing typed_nil = inl refl
 
   pub first-nil : (g : ℕ → Goal) (t : Codes) → FirstAll l f n [] g t → t ≡ nil
   first-nil g t h = go h.fits.legal
     where
       go : {t : Codes} → TypedAll l [] t [] → t ≡ nil
-      go typed-nil = refl
+      go typed_nil = refl
 
 -- More levels do not hurt operands either.
 all_more : {l : Language} {f : Clauses} {n m : ℕ} {ks : List ℕ} {g : ℕ → Goal} {t : Codes} → n ≤ m → FitsAll l f n ks g t → FitsAll l f m ks g t
@@ -95,10 +95,10 @@ module _ (l : Language) (f : Clauses) (k p : ℕ) (ks : List ℕ) (g : Goal) (b 
     (match : Matches l f k p ks g b) where
   pub node-fits : (n : ℕ) (t : Codes) → FitsAll l f n ks b t → Fits l f (suc n) k g (node k p t)
   unfolding levels
-  node-fits n t h = record { legal = typed-node known h.legal; within = omega (arith, h.within); meets = match.up t h.legal h.meets }
+  node-fits n t h = record { legal = typed_node known h.legal; within = omega (arith, h.within); meets = match.up t h.legal h.meets }
 
   operands-legal : (j : ℕ) (t : Codes) → Typed l [] (node k p t) j → TypedAll l [] t ks
-  operands-legal j t (typed-node d h) = rw (some_inj (sym d ∙ known)) at h
+  operands-legal j t (typed_node d h) = rw (some_inj (sym d ∙ known)) at h
 
   fits-operands : (n : ℕ) (t : Codes) → Fits l f (suc n) k g (node k p t) → FitsAll l f n ks b t
   unfolding levels
@@ -131,7 +131,7 @@ needs-nothing l f m k p g h = record {
 
 -- There is no production of the name.
 unknown : {l : Language} {k j p : ℕ} {t : Codes} → arguments_of l k p ≡ none → Typed l [] (node k p t) j → ⊥
-unknown e (typed-node d h) = none_some (sym e ∙ d)
+unknown e (typed_node d h) = none_some (sym e ∙ d)
 
 pub needs-unknown : (l : Language) (f : Clauses) (m k p : ℕ) (g : Goal) → arguments_of l k p ≡ none → NeedsNamed l f m k p (suc p) g (suc m)
 needs-unknown l f m k p g e = needs-nothing l f m k p g (λ n t q. unknown e q.legal)
@@ -142,7 +142,7 @@ pub needs-unmatched : (l : Language) (f : Clauses) (m k p : ℕ) (ks : List ℕ)
 needs-unmatched l f m k p ks g e h = needs-nothing l f m k p g (λ n t q. go n t q q.legal)
   where
     go : (n : ℕ) (t : Codes) → Fits l f (suc n) k g (node k p t) → {j : ℕ} → Typed l [] (node k p t) j → ⊥
-    go n t q (typed-node d y) = h t (rw (some_inj (sym d ∙ e)) at y) q.meets
+    go n t q (typed_node d y) = h t (rw (some_inj (sym d ∙ e)) at y) q.meets
 
 -- No names.
 pub names-none : (l : Language) (f : Clauses) (m k : ℕ) (g : Goal) (p : ℕ) → NeedsNamed l f m k p p g (suc m)
@@ -154,9 +154,9 @@ Named l = (k p : ℕ) (ks : List ℕ) → arguments_of l k p ≡ some ks → p <
 
 module _ (l : Language) (f : Clauses) (named : Named l) (k : ℕ) (g : Goal) (plain : range_of l k ≡ none) where
   pub kind-node : {t : Code} → Typed l [] t k → (p : ℕ) × (r : Codes) × (t ≡ node k p r) × (p < 256)
-  kind-node (typed-node {p = p} {t = t} {ks = ks} d h) = (p, t, refl, named k p ks d)
-  kind-node (typed-token d h) = none_some (sym plain ∙ d)
-  kind-node (typed-argument {i = i} {j = j} d) = no_kind i j d
+  kind-node (typed_node {p = p} {t = t} {ks = ks} d h) = (p, t, refl, named k p ks d)
+  kind-node (typed_token d h) = none_some (sym plain ∙ d)
+  kind-node (typed_argument {i = i} {j = j} d) = no_kind i j d
 
   no-level : (p : ℕ) (r : Codes) → Fits l f 0 k g (node k p r) → ⊥
   unfolding levels

@@ -10,18 +10,18 @@ use Rattle.format_fields.proofs.Truth.{Mem, none_some, some_inj, keep_cases, mem
 use Rattle.format_language.specs.Language.{Language, is_in}
 use Rattle.format_language.proofs.Lookup.{range_mem, arguments_mem, class_in, result_in}
 use Rattle.tree_reader.specs.Code.{Code, levels}
-use Rattle.tree_reader.specs.Typing.{Typed, typed-node, typed-token, typed-argument}
+use Rattle.tree_reader.specs.Typing.{Typed, typed_node, typed_token, typed_argument}
 use Rattle.tree_reader.specs.Syntax.{write, tree, done, read}
 use Rattle.tree_reader.proofs.RoundTrip.{Apart, round, as_tree}
 use Rattle.format_translation.specs.Translation.{Translation, mapping_of, mapped}
 use Rattle.format_translation.specs.Running.{clauses_of, run, transform}
-use Rattle.format_translation.proofs.Preserved.{Carries, kept_tree, typed-run}
+use Rattle.format_translation.proofs.Preserved.{Carries, kept_tree, typed_run}
 use Rattle.search_sources.specs.Inner.Goals.{Goal, Fits, First}
 use Rattle.search_sources.proofs.Answers.{Named, no_kind}
 use Rattle.search_sources.specs.Trees.{trees_within}
 use Rattle.search_sources.specs.Sources.{runs_to, sources_of, search_of, first_of, before}
 use Rattle.search_sources.proofs.Ordering.{FirstIn, first_in, least_upto}
-use Rattle.search_sources.proofs.Within.{within_legal, legal-within}
+use Rattle.search_sources.proofs.Within.{within_legal, legal_within}
 
 -- Bytes of trees of one kind are equal where the trees are, whatever their levels.
 done_code : {a b : Code} {r s : List ℕ} → done a r ≡ done b s → a ≡ b
@@ -36,9 +36,9 @@ write_same l apart {a} {b} {k} h g e =
 
 -- The kind of a tree is in the language.
 typed_in : {l : Language} {t : Code} {k : ℕ} → Typed l [] t k → is_in l k ≡ true
-typed_in {l = l} (typed-node {k = k} {p = p} {ks = ks} e h) = result_in l k p ks (arguments_mem l k p ks e)
-typed_in {l = l} (typed-token {k = k} {c = c} e h) = class_in l k c (range_mem l k c e)
-typed_in (typed-argument {i = i} {j = j} e) = no_kind i j e
+typed_in {l = l} (typed_node {k = k} {p = p} {ks = ks} e h) = result_in l k p ks (arguments_mem l k p ks e)
+typed_in {l = l} (typed_token {k = k} {c = c} e h) = class_in l k c (range_mem l k c e)
+typed_in (typed_argument {i = i} {j = j} e) = no_kind i j e
 
 module _ (f : Translation) (source_apart : Apart f.source) (target_apart : Apart f.target) (named : Named f.source)
     (carries : Carries f.source f.target (mapping_of f.body) (clauses_of f))
@@ -49,7 +49,7 @@ module _ (f : Translation) (source_apart : Apart f.source) (target_apart : Apart
 
   -- The run of a tree is of the kind that its own maps to.
   run_legal : (t : Code) → Typed f.source [] t k → Typed f.target [] (run (clauses_of f) 0 t) (mapped f.body k 0)
-  run_legal t h = typed-run carries (kept_tree (mapping_of f.body)) 0 (mapped f.body k 0) h (has_zero k (typed_in h))
+  run_legal t h = typed_run carries (kept_tree (mapping_of f.body)) 0 (mapped f.body k 0) h (has_zero k (typed_in h))
 
   -- Candidates are the trees that fit.
   runs_fits : (t : Code) → Mem t (keep (runs_to f target) (trees_within f.source n k)) → Fits f.source (clauses_of f) n k (some u) t
@@ -62,7 +62,7 @@ module _ (f : Translation) (source_apart : Apart f.source) (target_apart : Apart
   fits_runs : (t : Code) → Fits f.source (clauses_of f) n k (some u) t → Mem t (keep (runs_to f target) (trees_within f.source n k))
   unfolding runs_to transform
   fits_runs t h =
-      mem_keep (runs_to f target) t (trees_within f.source n k) (legal-within f.source source_apart named n h.legal h.within)
+      mem_keep (runs_to f target) t (trees_within f.source n k) (legal_within f.source source_apart named n h.legal h.within)
       (ap (λ (s : List ℕ). same_numbers s target) (ap (write tree) h.meets) ∙ equal_numbers target)
 
   fits_source : (t : Code) → Fits f.source (clauses_of f) n k (some u) t → Mem (write tree t) (sources_of f n k target)

@@ -11,7 +11,7 @@ use borrow.Author.Tests.{eqb-true, eqb-false, eq-eqb}
 use Rattle.format_fields.proofs.Truth.{none_some, some_inj, by_test}
 use Rattle.format_language.specs.Language.{Language}
 use Rattle.tree_reader.specs.Code.{Code, node, token, argument, Codes, nil, cons}
-use Rattle.tree_reader.specs.Typing.{Uses, Typed, TypedAll, typed-nil, typed-cons}
+use Rattle.tree_reader.specs.Typing.{Uses, Typed, TypedAll, typed_nil, typed_cons}
 use Rattle.tree_reader.specs.Syntax.{Syntax, write, write_all}
 use Rattle.format_translation.specs.Running.{Replacing, substitute, substitute_all, from_one, Clauses, run, run_operand}
 use Rattle.search_sources.specs.Inner.Goals.{Goal, Meets, MeetsAll, Matches}
@@ -20,8 +20,8 @@ use Rattle.search_sources.specs.Inner.Matching.{followed, bind, nothing_bound, I
 -- Codes behind each other.
 pub typed_followed : {l : Language} {r : Uses} {t u : Codes} {ks js : List ℕ} → TypedAll l r t ks → TypedAll l r u js → TypedAll l r (followed t u) (ks ++ js)
 unfolding followed
-typed_followed typed-nil h = h
-typed_followed (typed-cons q qs) h = typed-cons q (typed_followed qs h)
+typed_followed typed_nil h = h
+typed_followed (typed_cons q qs) h = typed_cons q (typed_followed qs h)
 
 pub write_followed : (x : Syntax) (t u : Codes) → write_all x (followed t u) ≡ write_all x t ++ write_all x u
 unfolding followed write
@@ -40,8 +40,8 @@ cons_both e = (cc, cc)
 followed_both : {l m : Language} {x y : Uses} {t r : Codes} {ks : List ℕ} (s : Replacing) → TypedAll l x t ks → TypedAll m y r ks → (u v : Codes)
     → followed (substitute_all s t) u ≡ followed r v → (substitute_all s t ≡ r) × (u ≡ v)
 unfolding followed substitute
-followed_both s typed-nil typed-nil u v e = (refl, e)
-followed_both s (typed-cons {a = a} {t = t} h hs) (typed-cons {a = b} {t = r} g gs) u v e =
+followed_both s typed_nil typed_nil u v e = (refl, e)
+followed_both s (typed_cons {a = a} {t = t} h hs) (typed_cons {a = b} {t = r} g gs) u v e =
     let z = cons_both e in
     let y = followed_both s hs gs u v z.1 in
     (λ i. cons (z.0 i) (y.0 i), y.1)
@@ -66,10 +66,10 @@ module _ (b : ℕ → Goal) (k p : ℕ) (t cs r us : Codes) where
 
   pub no_node : (q : ℕ) → (p ≡ q → ⊥) → (s : Replacing) → Solves b (cons (node k p t) cs) (cons (node k q r) us) s → ⊥
   unfolding substitute
-  no_node q n s h = n (node-name (cons_both h.same).0)
+  no_node q n s h = n (node_name (cons_both h.same).0)
     where
-      node-name : {k p q : ℕ} {t r : Codes} → node k p t ≡ node k q r → p ≡ q
-      node-name e = cc
+      node_name : {k p q : ℕ} {t r : Codes} → node k p t ≡ node k q r → p ≡ q
+      node_name e = cc
 
 -- A token.
 module _ (b : ℕ → Goal) (v : ℕ) (cs us : Codes) where
@@ -144,18 +144,18 @@ runs f t = from_one (λ i by. run_operand f t i by)
 module _ {l : Language} (f : Clauses) where
   meets_agree : {t : Codes} {ks : List ℕ} → TypedAll l [] t ks → (g : ℕ → Goal) → Inside ks g → MeetsAll f ks g t → Agrees g (runs f t)
   unfolding run from_one
-  meets_agree typed-nil g i h j w e = absurd (omega (arith, i j w e))
-  meets_agree (typed-cons {a = a} q qs) g i h zero w e = go (g 0) e h.0
+  meets_agree typed_nil g i h j w e = absurd (omega (arith, i j w e))
+  meets_agree (typed_cons {a = a} q qs) g i h zero w e = go (g 0) e h.0
     where
       go : (o : Goal) → o ≡ some w → Meets f o a → run f 0 a ≡ w
       go none y z = none_some y
       go (some u) y z = z ∙ some_inj y
-  meets_agree (typed-cons q qs) g i h (suc j) w e = meets_agree qs (λ m. g (suc m)) (λ m v y. omega (arith, i (suc m) v y)) h.1 j w e
+  meets_agree (typed_cons q qs) g i h (suc j) w e = meets_agree qs (λ m. g (suc m)) (λ m v y. omega (arith, i (suc m) v y)) h.1 j w e
 
   agree_meets : {t : Codes} {ks : List ℕ} → TypedAll l [] t ks → (g : ℕ → Goal) → Agrees g (runs f t) → MeetsAll f ks g t
   unfolding run from_one
-  agree_meets typed-nil g h = tt
-  agree_meets (typed-cons {a = a} q qs) g h = (go (g 0) refl, agree_meets qs (λ i. g (suc i)) (λ j w e. h (suc j) w e))
+  agree_meets typed_nil g h = tt
+  agree_meets (typed_cons {a = a} q qs) g h = (go (g 0) refl, agree_meets qs (λ i. g (suc i)) (λ j w e. h (suc j) w e))
     where
       go : (o : Goal) → g 0 ≡ o → Meets f o a
       go none e = tt

@@ -46,12 +46,12 @@ module _ (s : List ℕ) (l : Language) (e : entries_of s ≡ some l) where
   named_of narrow k p ks known =
       let (q, d) = entry_place (production k p ks) (arguments_mem l k p ks known) in
       let n = narrow (q + 4) in
-      let x : p ≡ byte_at s (q + 4) = named-byte (eqb (byte_at s q) 0x11) (byte_at s (q + 3)) (byte_at s (q + 4)) (class_range s q) (slice (q + 5) (field_end s q) s) d in
+      let x : p ≡ byte_at s (q + 4) = named_byte (eqb (byte_at s q) 0x11) (byte_at s (q + 3)) (byte_at s (q + 4)) (class_range s q) (slice (q + 5) (field_end s q) s) d in
       rw x n
     where
-      named-byte : (b : Bool) (r q : ℕ) (c : Range) (js : List ℕ) → production k p ks ≡ cond b (class r c) (production r q js) → p ≡ q
-      named-byte true r q c js y = class_production (sym y)
-      named-byte false r q c js y = cc
+      named_byte : (b : Bool) (r q : ℕ) (c : Range) (js : List ℕ) → production k p ks ≡ cond b (class r c) (production r q js) → p ≡ q
+      named_byte true r q c js y = class_production (sym y)
+      named_byte false r q c js y = cc
 
 -- The source of a translation that was accepted from a file of bytes.
 module _ (file : List ℕ) (f : Translation) (accepted : translation_of file ≡ value f) (narrow : (i : ℕ) → byte_at file i < 256) where

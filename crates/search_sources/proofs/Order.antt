@@ -12,10 +12,10 @@ use Rattle.format_fields.specs.Fields.{two_bytes}
 use Rattle.format_fields.proofs.Truth.{none_some, some_inj}
 use Rattle.format_language.specs.Language.{Language, Range, range_of, arguments_of}
 use Rattle.tree_reader.specs.Code.{Code, node, token, argument, Codes, nil, cons}
-use Rattle.tree_reader.specs.Typing.{kind_at, Typed, TypedAll, typed-node, typed-token, typed-argument, typed-nil, typed-cons}
+use Rattle.tree_reader.specs.Typing.{kind_at, Typed, TypedAll, typed_node, typed_token, typed_argument, typed_nil, typed_cons}
 use Rattle.tree_reader.specs.Syntax.{write, write_all, tree}
 use Rattle.tree_reader.proofs.RoundTrip.{Apart}
-use Rattle.search_sources.specs.Inner.Order.{Earlier, EarlierAll, by_name, by-operands, by_value, at_first, after, Upto, UptoAll, Parts, here, on}
+use Rattle.search_sources.specs.Inner.Order.{Earlier, EarlierAll, by_name, by_operands, by_value, at_first, after, Upto, UptoAll, Parts, here, on}
 
 -- Two numbers compared, with the fact.
 pub data Tri (m n : ℕ) : Type 0 where
@@ -79,7 +79,7 @@ mutual
 
   pub earlier_parts : {a b : Code} → Earlier a b → Parts (write tree a) (write tree b)
   earlier_parts (by_name h) = here h
-  earlier_parts (by-operands h) = on (earlier_all_parts h)
+  earlier_parts (by_operands h) = on (earlier_all_parts h)
   earlier_parts (by_value {v = v} {w = w} h) = token_parts v w h (tri (v / 256) (w / 256))
 
   pub earlier_all_parts : {t r : Codes} → EarlierAll t r → Parts (write_all tree t) (write_all tree r)
@@ -100,7 +100,7 @@ upto_cons a b t r (inr h) d = inr (at_first h)
 
 pub upto_node : (k p : ℕ) (t r : Codes) → UptoAll t r → Upto (node k p t) (node k p r)
 upto_node k p t r (inl e) = inl (ap (node k p) e)
-upto_node k p t r (inr h) = inr (by-operands h)
+upto_node k p t r (inr h) = inr (by_operands h)
 
 pub upto_token : (v w : ℕ) → v ≤ w → Upto (token v) (token w)
 upto_token v w h = go (tri v w)
@@ -120,7 +120,7 @@ Sooner (argument i j) b = Unit {0}
 
 sooner : {a b : Code} → Earlier a b → Sooner a b
 sooner (by_name h) = inl h
-sooner (by-operands h) = inr (refl, h)
+sooner (by_operands h) = inr (refl, h)
 sooner (by_value h) = tt
 
 abbrev SoonerAll : Codes → Codes → Type 0
@@ -145,10 +145,10 @@ node_upto {k} {p} {t} {r} (inr h) = go (sooner h)
 
 -- A node of a greater name does not come up to one of a lesser.
 pub not_upto : {k p q : ℕ} {t r : Codes} → Upto (node k p t) (node k q r) → q < p → ⊥
-not_upto {k} {p} {q} {t} {r} (inl e) h = let z : p ≡ q = node-name e in omega arith
+not_upto {k} {p} {q} {t} {r} (inl e) h = let z : p ≡ q = node_name e in omega arith
   where
-    node-name : {k p q : ℕ} {t r : Codes} → node k p t ≡ node k q r → p ≡ q
-    node-name e = cc
+    node_name : {k p q : ℕ} {t r : Codes} → node k p t ≡ node k q r → p ≡ q
+    node_name e = cc
 not_upto {k} {p} {q} {t} {r} (inr e) h = go (sooner e)
   where
     go : (p < q) ⊎ ((p ≡ q) × EarlierAll t r) → ⊥

@@ -11,10 +11,10 @@ use borrow.Author.Tests.{ltb-true, ltb-false, lt-ltb, eqb-true, eqb-false, eq-eq
 use Rattle.format_fields.proofs.Truth.{Mem, false_true, none_some, some_inj, or_cases, or_left, or_right, or_false, and_both, both_and, refuted, not_both}
 use Rattle.format_language.specs.Language.{Language, arguments_of}
 use Rattle.tree_reader.specs.Code.{Code, node, token, Codes, nil, cons}
-use Rattle.tree_reader.specs.Typing.{Typed, TypedAll, typed-node, typed-token, typed-argument, typed-nil, typed-cons}
+use Rattle.tree_reader.specs.Typing.{Typed, TypedAll, typed_node, typed_token, typed_argument, typed_nil, typed_cons}
 use Rattle.tree_reader.specs.Syntax.{write, tree}
 use Rattle.tree_reader.proofs.RoundTrip.{Apart}
-use Rattle.search_sources.specs.Inner.Order.{Earlier, EarlierAll, by_name, by-operands, by_value, at_first, after, Upto, UptoAll, Parts, here, on}
+use Rattle.search_sources.specs.Inner.Order.{Earlier, EarlierAll, by_name, by_operands, by_value, at_first, after, Upto, UptoAll, Parts, here, on}
 use Rattle.search_sources.proofs.Order.{Tri, below, level, above, tri, earlier_parts}
 use Rattle.search_sources.proofs.Answers.{no_kind}
 use Rattle.search_sources.specs.Sources.{before, earlier, first_of}
@@ -37,8 +37,8 @@ order_node k p q t r (level e) c = rest (c e)
   where
     rest : OrderedAll t r → Ordered (node k p t) (node k q r)
     rest (OrderedAll.equal d) = Ordered.equal (λ i. node k (e i) (d i))
-    rest (OrderedAll.first h) = Ordered.first (rw e (by-operands h))
-    rest (OrderedAll.second h) = Ordered.second (rw e (by-operands h))
+    rest (OrderedAll.first h) = Ordered.first (rw e (by_operands h))
+    rest (OrderedAll.second h) = Ordered.second (rw e (by_operands h))
 
 order_token : (v w : ℕ) → Tri v w → Ordered (token v) (token w)
 order_token v w (below h) = Ordered.first (by_value h)
@@ -56,18 +56,18 @@ module _ (l : Language) (apart : Apart l) where
   mutual
     -- Two trees of one kind are equal, or one comes earlier.
     pub order : {a b : Code} {k : ℕ} → Typed l [] a k → Typed l [] b k → Ordered a b
-    order (typed-node {k = k} {p = p} {t = t} e h) (typed-node {p = q} {t = r} d g) =
-        order_node k p q t r (tri p q) (λ z. orderAll h (rw (some_inj (sym d ∙ (ap (arguments_of l k) (sym z) ∙ e))) at g))
-    order (typed-node {k = k} {p = p} {ks = ks} e h) (typed-token d g) = none_some (sym (apart k p ks e) ∙ d)
-    order (typed-token {k = k} e h) (typed-node {p = q} {ks = ks} d g) = none_some (sym (apart k q ks d) ∙ e)
-    order (typed-token {v = v} e h) (typed-token {v = w} d g) = order_token v w (tri v w)
-    order (typed-argument {i = i} {j = j} e) g = no_kind i j e
-    order (typed-node e h) (typed-argument {i = i} {j = j} d) = no_kind i j d
-    order (typed-token e h) (typed-argument {i = i} {j = j} d) = no_kind i j d
+    order (typed_node {k = k} {p = p} {t = t} e h) (typed_node {p = q} {t = r} d g) =
+        order_node k p q t r (tri p q) (λ z. order_all h (rw (some_inj (sym d ∙ (ap (arguments_of l k) (sym z) ∙ e))) at g))
+    order (typed_node {k = k} {p = p} {ks = ks} e h) (typed_token d g) = none_some (sym (apart k p ks e) ∙ d)
+    order (typed_token {k = k} e h) (typed_node {p = q} {ks = ks} d g) = none_some (sym (apart k q ks d) ∙ e)
+    order (typed_token {v = v} e h) (typed_token {v = w} d g) = order_token v w (tri v w)
+    order (typed_argument {i = i} {j = j} e) g = no_kind i j e
+    order (typed_node e h) (typed_argument {i = i} {j = j} d) = no_kind i j d
+    order (typed_token e h) (typed_argument {i = i} {j = j} d) = no_kind i j d
 
-    orderAll : {t r : Codes} {ks : List ℕ} → TypedAll l [] t ks → TypedAll l [] r ks → OrderedAll t r
-    orderAll typed-nil typed-nil = OrderedAll.equal refl
-    orderAll (typed-cons {a = a} {t = t} h hs) (typed-cons {a = b} {t = r} g gs) = order_cons a b t r (order h g) (orderAll hs gs)
+    order_all : {t r : Codes} {ks : List ℕ} → TypedAll l [] t ks → TypedAll l [] r ks → OrderedAll t r
+    order_all typed_nil typed_nil = OrderedAll.equal refl
+    order_all (typed_cons {a = a} {t = t} h hs) (typed_cons {a = b} {t = r} g gs) = order_cons a b t r (order h g) (order_all hs gs)
 
 -- The earlier tree's bytes come before the other's.
 parts_before : {s t : List ℕ} → Parts s t → before s t ≡ true

@@ -19,7 +19,7 @@ use Rattle.search_sources.specs.Sources.{runs_to, sources_of, search_of}
 use Rattle.search_sources.specs.Inner.Giving.{Gives, FoundGives, NothingBefore, NoneGives}
 use Rattle.search_sources.proofs.Ordering.{FirstIn, first_in}
 use Rattle.search_sources.proofs.Names.{source_names}
-use Rattle.search_sources.proofs.Within.{within_legal, legal-within}
+use Rattle.search_sources.proofs.Within.{within_legal, legal_within}
 
 -- What is found is the first of the source trees that run to the target.
 module _ (f : Translation) (n k : ℕ) (target : List ℕ) (o : Option (List ℕ)) (e : search_of f n k target ≡ o) where
@@ -35,7 +35,7 @@ module _ (f : Translation) (n k : ℕ) (target : List ℕ) (o : Option (List ℕ
     unfolding sources_of runs_to
     gives_source t h =
         mem_map (write tree) t (keep (runs_to f target) (trees_within f.source n k))
-        (mem_keep (runs_to f target) t (trees_within f.source n k) (legal-within f.source separate (source_names file f accepted narrow) n h.legal h.within)
+        (mem_keep (runs_to f target) t (trees_within f.source n k) (legal_within f.source separate (source_names file f accepted narrow) n h.legal h.within)
         (ap (λ (s : List ℕ). same_numbers s target) h.runs ∙ equal_numbers target))
 
 pub found_gives : FoundGives

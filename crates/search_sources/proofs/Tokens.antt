@@ -12,7 +12,7 @@ use borrow.Author.Tests.{leb-true, le-leb, eq-eqb}
 use Rattle.format_fields.proofs.Truth.{none_some, some_inj, false_true, and_both, both_and}
 use Rattle.format_language.specs.Language.{Language, Range, range_of, in_range}
 use Rattle.tree_reader.specs.Code.{Code, node, token, argument, Codes, levels}
-use Rattle.tree_reader.specs.Typing.{kind_at, Typed, typed-node, typed-token, typed-argument}
+use Rattle.tree_reader.specs.Typing.{kind_at, Typed, typed_node, typed_token, typed_argument}
 use Rattle.tree_reader.proofs.RoundTrip.{Apart}
 use Rattle.format_translation.specs.Running.{Clauses, run}
 use Rattle.search_sources.specs.Inner.Order.{Upto}
@@ -35,13 +35,13 @@ range_low c v e =
 
 module _ (l : Language) (f : Clauses) (apart : Apart l) (k : ℕ) (c : Range) (class : range_of l k ≡ some c) where
   pub class_token : {t : Code} → Typed l [] t k → (v : ℕ) × (t ≡ token v) × (in_range c v ≡ true)
-  class_token (typed-node {p = p} {ks = ks} d h) = none_some (sym (apart k p ks d) ∙ class)
-  class_token (typed-token {v = v} d h) = (v, refl, rw (some_inj (sym d ∙ class)) at h)
-  class_token (typed-argument {i = i} {j = j} d) = no_kind i j d
+  class_token (typed_node {p = p} {ks = ks} d h) = none_some (sym (apart k p ks d) ∙ class)
+  class_token (typed_token {v = v} d h) = (v, refl, rw (some_inj (sym d ∙ class)) at h)
+  class_token (typed_argument {i = i} {j = j} d) = no_kind i j d
 
   token_fits : (n v : ℕ) (g : Goal) → in_range c v ≡ true → Meets f g (token v) → Fits l f n k g (token v)
   unfolding levels
-  token_fits n v g h m = record { legal = typed-token class h; within = omega arith; meets = m }
+  token_fits n v g h m = record { legal = typed_token class h; within = omega arith; meets = m }
 
   -- The first tree for no goal is the lowest value.
   pub low_first : (n : ℕ) → in_range c c.low ≡ true → First l f n k none (token c.low)

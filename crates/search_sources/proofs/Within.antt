@@ -12,7 +12,7 @@ use Rattle.format_fields.specs.Lists.{keep, concat_map, count_up}
 use Rattle.format_fields.proofs.Truth.{Mem, none_some, some_inj, and_both, keep_cases, mem_keep, mem_map, map_cases, concat_cases, mem_concat, mem_count, count_mem}
 use Rattle.format_language.specs.Language.{Language, Range, range_of, arguments_of, in_range}
 use Rattle.tree_reader.specs.Code.{Code, node, token, Codes, nil, cons, levels, levels_all}
-use Rattle.tree_reader.specs.Typing.{Typed, TypedAll, typed-node, typed-token, typed-argument, typed-nil, typed-cons}
+use Rattle.tree_reader.specs.Typing.{Typed, TypedAll, typed_node, typed_token, typed_argument, typed_nil, typed_cons}
 use Rattle.tree_reader.proofs.RoundTrip.{Apart}
 use Rattle.search_sources.proofs.Answers.{Named, no_kind}
 use Rattle.search_sources.specs.Trees.{tokens, rows, trees_named, trees_over, or_tokens, trees_within}
@@ -23,7 +23,7 @@ unfolding tokens levels
 tokens_legal l k c t e m =
     let z = map_cases token t (keep (in_range c) (count_up (c.high + 1 - c.low) c.low)) m in
     let y = keep_cases (in_range c) z.0 (count_up (c.high + 1 - c.low) c.low) z.1 in
-    rw z.2 (typed-token e y.1, omega arith)
+    rw z.2 (typed_token e y.1, omega arith)
 
 range_bounds : (c : Range) (v : ℕ) → in_range c v ≡ true → (c.low ≤ v) × (v ≤ c.high)
 unfolding in_range
@@ -42,7 +42,7 @@ legal_tokens c v e =
 module _ (l : Language) (n : ℕ) (trees : ℕ → List Code) (sound : (k : ℕ) (t : Code) → Mem t (trees k) → Typed l [] t k × (levels t ≤ n)) where
   rows_legal : (ks : List ℕ) (s : Codes) → Mem s (rows trees ks) → TypedAll l [] s ks × (levels_all s ≤ n)
   unfolding rows levels
-  rows_legal [] s (inl e) = rw e (typed-nil, omega arith)
+  rows_legal [] s (inl e) = rw e (typed_nil, omega arith)
   rows_legal (k ∷ ks) s m =
       let z = concat_cases (λ a. map (cons a) (rows trees ks)) s (trees k) m in
       let y = map_cases (cons z.0) s (rows trees ks) z.2 in
@@ -50,7 +50,7 @@ module _ (l : Language) (n : ℕ) (trees : ℕ → List Code) (sound : (k : ℕ)
       let g = rows_legal ks y.0 y.1 in
       let w = h.1 in
       let v = g.1 in
-      rw y.2 (typed-cons h.0 g.0, omega arith)
+      rw y.2 (typed_cons h.0 g.0, omega arith)
 
   named_legal : (k p : ℕ) (o : Option (List ℕ)) (t : Code) → arguments_of l k p ≡ o → Mem t (trees_named trees k p o) → Typed l [] t k × (levels t ≤ suc n)
   unfolding trees_named levels
@@ -59,7 +59,7 @@ module _ (l : Language) (n : ℕ) (trees : ℕ → List Code) (sound : (k : ℕ)
       let z = map_cases (node k p) t (rows trees ks) m in
       let g = rows_legal ks z.0 z.1 in
       let w = g.1 in
-      rw z.2 (typed-node e g.0, omega arith)
+      rw z.2 (typed_node e g.0, omega arith)
 
   over_legal : (k : ℕ) (t : Code) → Mem t (trees_over trees l k) → Typed l [] t k × (levels t ≤ suc n)
   unfolding trees_over
@@ -70,8 +70,8 @@ module _ (l : Language) (n : ℕ) (trees : ℕ → List Code) (sound : (k : ℕ)
 module _ (l : Language) (n : ℕ) (trees : ℕ → List Code) (complete : (t : Code) (k : ℕ) → Typed l [] t k → levels t ≤ n → Mem t (trees k)) where
   legal_rows : {s : Codes} {ks : List ℕ} → TypedAll l [] s ks → levels_all s ≤ n → Mem s (rows trees ks)
   unfolding rows levels
-  legal_rows typed-nil w = inl refl
-  legal_rows (typed-cons {a = a} {k = k} {t = t} {ks = ks} h hs) w =
+  legal_rows typed_nil w = inl refl
+  legal_rows (typed_cons {a = a} {k = k} {t = t} {ks = ks} h hs) w =
       mem_concat (λ b. map (cons b) (rows trees ks)) a (cons a t) (trees k) (complete a k h (omega arith)) (mem_map (cons a) t (rows trees ks) (legal_rows hs (omega arith)))
 
   legal_over : (named : Named l) (k p : ℕ) (s : Codes) (ks : List ℕ) → arguments_of l k p ≡ some ks → TypedAll l [] s ks → levels_all s ≤ n → Mem (node k p s) (trees_over trees l k)
@@ -103,13 +103,13 @@ module _ (l : Language) where
     unfolding or_tokens
     node_in k p s ks x e m = rw (apart k p ks e) m
 
-    pub legal-within : (n : ℕ) {t : Code} {k : ℕ} → Typed l [] t k → levels t ≤ n → Mem t (trees_within l n k)
+    pub legal_within : (n : ℕ) {t : Code} {k : ℕ} → Typed l [] t k → levels t ≤ n → Mem t (trees_within l n k)
     unfolding trees_within levels
-    legal-within zero (typed-node e h) w = absurd (omega arith)
-    legal-within zero (typed-token {v = v} {k = k} {c = c} e h) w = token_in k v c [] e h
-    legal-within zero (typed-argument {i = i} {j = j} e) w = no_kind i j e
-    legal-within (suc n) (typed-node {k = k} {p = p} {t = s} {ks = ks} e h) w =
+    legal_within zero (typed_node e h) w = absurd (omega arith)
+    legal_within zero (typed_token {v = v} {k = k} {c = c} e h) w = token_in k v c [] e h
+    legal_within zero (typed_argument {i = i} {j = j} e) w = no_kind i j e
+    legal_within (suc n) (typed_node {k = k} {p = p} {t = s} {ks = ks} e h) w =
         node_in k p s ks (trees_over (trees_within l n) l k) e
-        (legal_over l n (trees_within l n) (λ u j a b. legal-within n a b) named k p s ks e h (omega arith))
-    legal-within (suc n) (typed-token {v = v} {k = k} {c = c} e h) w = token_in k v c (trees_over (trees_within l n) l k) e h
-    legal-within (suc n) (typed-argument {i = i} {j = j} e) w = no_kind i j e
+        (legal_over l n (trees_within l n) (λ u j a b. legal_within n a b) named k p s ks e h (omega arith))
+    legal_within (suc n) (typed_token {v = v} {k = k} {c = c} e h) w = token_in k v c (trees_over (trees_within l n) l k) e h
+    legal_within (suc n) (typed_argument {i = i} {j = j} e) w = no_kind i j e

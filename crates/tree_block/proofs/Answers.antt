@@ -22,7 +22,7 @@ use Rattle.tree_index.specs.Operations.{check_indexed}
 use Rattle.tree_index.proofs.Lying.{past_inside, part_is}
 use Rattle.tree_index.proofs.Pairs.{Entry}
 use Rattle.tree_index.proofs.Starts.{entered_own, own_entered}
-use Rattle.tree_index.proofs.Owning.{Owned, accepted_own, refused-own, owned-small, owned-there}
+use Rattle.tree_index.proofs.Owning.{Owned, accepted_own, refused_own, owned_small, owned_there}
 use Rattle.tree_block.specs.Blocks.{Block, block_of, Reached, block_at, every_kind}
 use Rattle.tree_block.specs.Operations.{found, find_block, Shown, shown, show_block}
 use Rattle.tree_block.specs.Parts.{PartOf, Places, Handed, Told}
@@ -86,20 +86,20 @@ module _ (s : List ℕ) (root : ℕ) (b i : List ℕ) {o : Outcome} (eo : o ≡ 
   unfolding show_block find_block
   place-refused path {x} q p w =
       places-nothing b x (show_block s root b i path) p
-      (ap shown (refused-own s root b i (λ l t. found (block_at every_kind l path (block_of 0 root t))) (sym eo ∙ q))) w
+      (ap shown (refused_own s root b i (λ l t. found (block_at every_kind l path (block_of 0 root t))) (sym eo ∙ q))) w
 
   module _ {n : ℕ} (accepted : o ≡ Accepted n) where
     pub owned : Owned s root b i
     owned = accepted_own s root b i (sym eo ∙ accepted)
 
     pub root_small : root < 32
-    root_small = owned-small s root b i owned.language owned.subject owned.by
+    root_small = owned_small s root b i owned.language owned.subject owned.by
 
     module _ (places : List ℕ) (bytes : (j : ℕ) → get_or b j 0 < 256)
         (indexed : (m : ℕ) (l : Language) → o ≡ Accepted m → entries_of s ≡ some l → Indexed places s l) where
       pub tree-along : Along places s b i 0 root 0 owned.language owned.subject
       tree-along = record {
-        there = owned-there s root b i owned.language owned.subject owned.by places bytes (λ l e. indexed n l accepted e);
+        there = owned_there s root b i owned.language owned.subject owned.by places bytes (λ l e. indexed n l accepted e);
         entered = own_entered i owned.subject owned.by.own;
         short = owned.by.short;
       }

@@ -77,8 +77,8 @@ module _ (x s b i path : List ℕ) (kind at of p j set : ℕ) (l : Language) (t 
   path_hidden h = ends_unseen x s b i l _ (sym w.same ∙ unseen_hidden sees l (drop j path) (block_of at of w.subtree) (sym kind_seen ∙ h))
 
   module _ (seen : r ≡ true) where
-    pub path-done : length path ≤ j → Ends x s b i l (block_at sees l path (block_of 0 kind t)) (To at of p)
-    path-done h =
+    pub path_done : length path ≤ j → Ends x s b i l (block_at sees l path (block_of 0 kind t)) (To at of p)
+    path_done h =
         ends_to x s b i l _ at of p w.subtree
         (sym w.same ∙ (ap (λ (v : List ℕ). block_at sees l v (block_of at of w.subtree)) (drop_of_length-le path {i = j} h)
         ∙ path_ends sees l (block_of at of w.subtree) (sym kind_seen ∙ seen))) w.along
@@ -87,13 +87,13 @@ module _ (x s b i path : List ℕ) (kind at of p j set : ℕ) (l : Language) (t 
       opened : block_at sees l (get_or path j 0 ∷ drop (j + 1) path) (block_of at of w.subtree) ≡ block_at sees l path (block_of 0 kind t)
       opened = ap (λ (v : List ℕ). block_at sees l v (block_of at of w.subtree)) (sym (front path j here)) ∙ w.same
 
-      pub path-stops : q ≡ Nowhere → Ends x s b i l (block_at sees l path (block_of 0 kind t)) Nowhere
-      path-stops h =
+      pub path_stops : q ≡ Nowhere → Ends x s b i l (block_at sees l path (block_of 0 kind t)) Nowhere
+      path_stops h =
           ends_nowhere x s b i l _
           (sym opened ∙ step_stops sees l (block_of at of w.subtree) (sym kind_seen ∙ seen) (get_or path j 0) (drop (j + 1) path) (eq.nowhere h))
 
-      pub path-next : (a k e : ℕ) → q ≡ To a k e → Going x s b i path kind a k e (j + 1) l t sees
-      path-next a k e h =
+      pub path_next : (a k e : ℕ) → q ≡ To a k e → Going x s b i path kind a k e (j + 1) l t sees
+      path_next a k e h =
           let z = eq.to a k e h in
           record {
             subtree = z.0;

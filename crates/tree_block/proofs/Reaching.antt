@@ -9,7 +9,7 @@ use lib.ListN.{length}
 use Rattle.format_fields.proofs.Truth.{none_some, some_inj}
 use Rattle.format_language.specs.Language.{Language}
 use Rattle.tree_reader.specs.Code.{Code, Codes, nil, cons}
-use Rattle.tree_reader.specs.Typing.{Typed, typed-node, typed-token, typed-argument}
+use Rattle.tree_reader.specs.Typing.{Typed, typed_node, typed_token, typed_argument}
 use Rattle.tree_reader.specs.Syntax.{write, tree}
 use Rattle.tree_index.specs.Inner.Lying.{Lies, LieAll}
 use Rattle.tree_index.proofs.Lying.{node_lies, head_lies, tail_lie}
@@ -26,12 +26,12 @@ module _ (l : Language) (b : List ℕ) (c : Block) where
 
   typed_lies : (at k : ℕ) (t : Code) (i : ℕ) → Typed l [] t k → Lies l b at k t → argument_of l at t i ≡ some c → Lies l b c.start c.kind c.subtree
   unfolding argument_of
-  typed_lies at k t zero (typed-node e w) h q = none_some q
-  typed_lies at k t (suc n) (typed-node {p = p} {t = ts} {ks = ks} e w) h q =
+  typed_lies at k t zero (typed_node e w) h q = none_some q
+  typed_lies at k t (suc n) (typed_node {p = p} {t = ts} {ks = ks} e w) h q =
       after_lies ks ts n (at + 1) (node_lies l b at k p ts h ks e w)
       (sym (ap (λ (o : Option (List ℕ)). argument_after (get_or o []) ts n (at + 1)) e) ∙ q)
-  typed_lies at k t i (typed-token e w) h q = none_some q
-  typed_lies at k t i (typed-argument e) h q = none_some q
+  typed_lies at k t i (typed_token e w) h q = none_some q
+  typed_lies at k t i (typed_argument e) h q = none_some q
 
   pub argument_lies : (at k : ℕ) (t : Code) (i : ℕ) → Lies l b at k t → argument_of l at t i ≡ some c → Lies l b c.start c.kind c.subtree
   argument_lies at k t i h q = typed_lies at k t i h.typed h q

@@ -63,10 +63,10 @@ module _ (x s b i : List ℕ) (to p q last : ℕ) (l : Language) (ts : Codes) (w
   abbrev one : Turn x s b to q last l ts
   one = turn x s b to q last l ts w.row h end
 
-  abbrev behind-one : List Span
-  behind-one = spans_all (to + size one.head) one.tail ++ w.rest
+  abbrev behind_one : List Span
+  behind_one = spans_all (to + size one.head) one.tail ++ w.rest
 
-  all_are : drop p i ≡ entries (spans to one.head ++ behind-one)
+  all_are : drop p i ≡ entries (spans to one.head ++ behind_one)
   unfolding spans
   all_are =
       w.is ∙ (ap (λ (c : Codes). entries (spans_all to c ++ w.rest)) one.is
@@ -79,7 +79,7 @@ module _ (x s b i : List ℕ) (to p q last : ℕ) (l : Language) (ts : Codes) (w
       ap (λ (c : Codes). length (write_all tree c)) one.is ∙ length-append (write tree one.head) (write_all tree one.tail) in
       omega arith
 
-  behind_is : Behind (to + size one.head) behind-one
+  behind_is : Behind (to + size one.head) behind_one
   behind_is = row_behind one.tail (to + size one.head) w.rest (rw ends_are at w.behind)
 
   pub next_argument : Next x s b i to p q last l ts
@@ -87,8 +87,8 @@ module _ (x s b i : List ℕ) (to p q last : ℕ) (l : Language) (ts : Codes) (w
   next_argument = record {
     head = one.head;
     tail = one.tail;
-    along = record { there = one.there; entered = record { rest = behind-one; is = all_are; behind = behind_is }; short = w.short };
-    after = behind-one;
+    along = record { there = one.there; entered = record { rest = behind_one; is = all_are; behind = behind_is }; short = w.short };
+    after = behind_one;
     splits = record { is = all_are; below = spans_below one.head to (to + size one.head) (omega arith); behind = behind_is };
     row = λ p' e. rw e (record {
       row = one.row;
@@ -96,8 +96,8 @@ module _ (x s b i : List ℕ) (to p q last : ℕ) (l : Language) (ts : Codes) (w
       rest = w.rest;
       is =
           sym (drop-drop (length (entries (spans to one.head))) p i)
-          ∙ (ap (drop (length (entries (spans to one.head)))) (all_are ∙ entries_append (spans to one.head) behind-one)
-          ∙ drop-append_seam (entries (spans to one.head)) (entries behind-one));
+          ∙ (ap (drop (length (entries (spans to one.head)))) (all_are ∙ entries_append (spans to one.head) behind_one)
+          ∙ drop-append_seam (entries (spans to one.head)) (entries behind_one));
       behind = rw ends_are at w.behind;
     });
     here = ap (λ (v : List ℕ). argument_after v ts 0 to) one.kinds ∙ ap (λ (c : Codes). argument_after (get_or s q 0 ∷ slice (q + 1) last s) c 0 to) one.is;
@@ -134,21 +134,21 @@ module _ (x s b i : List ℕ) (first last at number q to p left : ℕ) (l : Lang
         omega (arith, walk_next.along.short)
 
     -- The entry of the argument, and the one behind its entries.
-    pub walk-entry : (v : List ℕ) × Entry i p to (size walk_next.head) v
-    walk-entry = entered_own i p to walk_next.head walk_next.along.entered
+    pub walk_entry : (v : List ℕ) × Entry i p to (size walk_next.head) v
+    walk_entry = entered_own i p to walk_next.head walk_next.along.entered
 
     module _ (n : ℕ) (en : n ≡ pair_at i (p + 2)) where
-      pub size-read : n ≡ size walk_next.head
-      size-read = en ∙ walk-entry.1.long
+      pub size_read : n ≡ size walk_next.head
+      size_read = en ∙ walk_entry.1.long
 
-      pub walk-splits : Splits i p (to + n) (spans to walk_next.head) walk_next.after
-      walk-splits = rw size-read walk_next.splits
+      pub walk_splits : Splits i p (to + n) (spans to walk_next.head) walk_next.after
+      walk_splits = rw size_read walk_next.splits
 
-      pub walk-on : (left ≡ 1 → ⊥) → 0 < left → (p' : ℕ) → p' ≡ p + length (entries (spans to walk_next.head))
+      pub walk_on : (left ≡ 1 → ⊥) → 0 < left → (p' : ℕ) → p' ≡ p + length (entries (spans to walk_next.head))
           → Walking x s b i first last at number (q + 1) (to + n) p' (left - 1) l ts
-      walk-on h j p' e =
+      walk_on h j p' e =
           let z : suc (left - 1 - 1) ≡ left - 1 = omega arith in
-          rw size-read (record {
+          rw size_read (record {
             others = walk_next.tail;
             row = walk_next.row p' e;
             same = sym (walk_next.next (left - 1 - 1)) ∙ (ap (λ (m : ℕ). argument_after (slice q last s) w.others m to) z ∙ w.same);
@@ -175,8 +175,8 @@ module _ (x s b i : List ℕ) (at k p : ℕ) (l : Language) (t : Code) (w : Alon
   entry_inside = (entered_own i p at t w.entered).1.inside
 
   module _ (first last to : ℕ) (o : Opens x s b at k l t first last to) where
-    pub opened-row : AlongRow x s b i to (p + 4) first last l o.operands
-    opened-row =
+    pub opened_row : AlongRow x s b i to (p + 4) first last l o.operands
+    opened_row =
         let y : at + o.front ≡ to = sym o.past in
         let n = shape_size o.shape in
         let z : at + size t ≡ to + length (write_all tree o.operands) = omega arith in
@@ -192,9 +192,9 @@ module _ (x s b i : List ℕ) (at k p : ℕ) (l : Language) (t : Code) (w : Alon
           behind = rw z at w.entered.behind;
         }
 
-    pub argument-leads : (n : ℕ) → (n ≡ 0 → ⊥) → (r : Step) → Leads x s b i l (argument_after (slice first last s) o.operands (n - 1) to) r
+    pub argument_leads : (n : ℕ) → (n ≡ 0 → ⊥) → (r : Step) → Leads x s b i l (argument_after (slice first last s) o.operands (n - 1) to) r
         → Leads x s b i l (argument_of l at t n) r
-    argument-leads n h r v =
+    argument_leads n h r v =
         let m : suc (n - 1) ≡ n = omega arith in
         let y : at + o.front ≡ to = sym o.past in
         let e : argument_after (slice first last s) o.operands (n - 1) to ≡ argument_of l at t n =

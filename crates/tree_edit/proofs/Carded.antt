@@ -22,7 +22,7 @@ use Rattle.tree_index.specs.Spans.{index_of}
 use Rattle.tree_index.specs.Operations.{is_long, indexed_tree, check_indexed}
 use Rattle.tree_index.proofs.Starts.{own_entered}
 use Rattle.tree_index.proofs.Checking.{tree_bytes}
-use Rattle.tree_index.proofs.Owning.{Owned, accepted_own, owned-small, owned-there}
+use Rattle.tree_index.proofs.Owning.{Owned, accepted_own, owned_small, owned_there}
 use Rattle.format_card.specs.Card.{Card, sees, card_of}
 use Rattle.format_card.specs.Inner.Sets.{Holds, lowest_of}
 use Rattle.format_card.proofs.Refusals.{same_refusal, lowest_accepted, accepted_card, together_refused}
@@ -62,10 +62,10 @@ module _ (s : List ℕ) (root : ℕ) (c b i : List ℕ) where
       (λ l card t. found (block_at (sees card) l path (block_of 0 root t)) >>= λ d. new_block l path d block >>= λ u. new_plan path u t) c (language_of s) h
 
   module _ {on-plan on-card low : Outcome} (eo : on-plan ≡ check_indexed s root b i) (ec : on-card ≡ checked (card_of c)) (el : low ≡ lowest_of on-plan on-card) where
-    pub edit-refused : (path block plan index : List ℕ) {y : Reason} → low ≡ Refused y → (r : Edited) → Refuses y r
+    pub edit_refused : (path block plan index : List ℕ) {y : Reason} → low ≡ Refused y → (r : Edited) → Refuses y r
         → Hands (edit_tree s root b i path c block plan index) plan index r
     unfolding edit_tree
-    edit-refused path block plan index {y} q r w =
+    edit_refused path block plan index {y} q r w =
         let e : lowest_of (check_indexed s root b i) (checked (card_of c)) ≡ Refused y = rw (eo, ec) at (sym el ∙ q) in
         gives_refused (edit_plan s root b i path c block >>= λ v. in_rooms (length plan) (length index) v) plan index y r
         (ap (λ (m : Result Code). m >>= λ v. in_rooms (length plan) (length index) v) (plan_refused path block e)) w
@@ -85,7 +85,7 @@ module _ (s : List ℕ) (root : ℕ) (c b i : List ℕ) where
 
     module _ {n : ℕ} (w : Legal n) where
       pub root_small : root < 32
-      root_small = owned-small s root b i w.owned.language w.owned.subject w.owned.by
+      root_small = owned_small s root b i w.owned.language w.owned.subject w.owned.by
 
       pub owns : (places : List ℕ) → ((j : ℕ) → get_or b j 0 < 256) → ((m : ℕ) (l : Language) → on-plan ≡ Accepted m → entries_of s ≡ some l → Indexed places s l)
           → Owns places s b i root w.owned.language w.owned.subject
@@ -95,14 +95,14 @@ module _ (s : List ℕ) (root : ℕ) (c b i : List ℕ) where
             plan = sym (tree_bytes o.language root b o.subject bytes o.by.tree_is);
             own = o.by.own;
             along = record {
-              there = owned-there s root b i o.language o.subject o.by places bytes (λ l e. indexed n l w.accepted e);
+              there = owned_there s root b i o.language o.subject o.by places bytes (λ l e. indexed n l w.accepted e);
               entered = own_entered i o.subject o.by.own;
               short = o.by.short;
             };
           }
 
-      pub edit-given : (path block plan index plan' index' : List ℕ) (r : Edited)
+      pub edit_given : (path block plan index plan' index' : List ℕ) (r : Edited)
           → Gives (path_in (length plan) (length index) w.owned.language path (block_at (sees w.card) w.owned.language path (block_of 0 root w.owned.subject)) block w.owned.subject) plan plan' index index' r
           → Hands (edit_tree s root b i path c block plan index) plan' index' r
       unfolding edit_tree edit_plan
-      edit-given path block plan index plan' index' r g = let o = w.owned.by in rw (o.is, w.card-is, o.indexed_is) g
+      edit_given path block plan index plan' index' r g = let o = w.owned.by in rw (o.is, w.card-is, o.indexed_is) g

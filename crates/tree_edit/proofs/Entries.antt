@@ -110,36 +110,36 @@ first_of i p stop (span s z ∷ others) h k =
 
 module _ (i o o' : List ℕ) (from stop start old new n p m : ℕ) (l : List Span) (w : Moving i o o' from stop start old new n p m l) where
   module _ (here : p < stop) where
-    pub move-first : First i p stop w.left
-    move-first = first_of i p stop w.left w.part here
+    pub move_first : First i p stop w.left
+    move_first = first_of i p stop w.left w.part here
 
     -- What `move_entry` asks for.
-    pub move-inside : (p + 4 ≤ length i) × (m + 4 ≤ n + (stop - from))
-    move-inside = let r = w.room in let q = move-first.room in (move-first.read.1.inside, omega arith)
+    pub move_inside : (p + 4 ≤ length i) × (m + 4 ≤ n + (stop - from))
+    move_inside = let r = w.room in let q = move_first.room in (move_first.read.1.inside, omega arith)
 
     module _ (top : ℕ) (movable : Movable start old top l) (fits : Fits old new top) where
-      first-movable : (move-first.start + move-first.long ≤ top) × (start < move-first.start + move-first.long → move-first.start < start + old → old ≤ move-first.long)
-      first-movable =
-          let v : Movable start old top (span move-first.start move-first.long ∷ move-first.others) = rw move-first.is at (w.movable top movable) in
+      first_movable : (move_first.start + move_first.long ≤ top) × (start < move_first.start + move_first.long → move_first.start < start + old → old ≤ move_first.long)
+      first_movable =
+          let v : Movable start old top (span move_first.start move_first.long ∷ move_first.others) = rw move_first.is at (w.movable top movable) in
           (v.0, v.1)
 
-      pub move-fits : Fits old new (pair_at i p + pair_at i (p + 2))
-      move-fits =
-          let r = move-first.read.1 in
-          let v = first-movable in
+      pub move_fits : Fits old new (pair_at i p + pair_at i (p + 2))
+      move_fits =
+          let r = move_first.read.1 in
+          let v = first_movable in
           record { before = omega (arith, r.start, r.long, v.0, fits.before); after = omega (arith, r.start, r.long, v.0, fits.after) }
 
-      pub move-apart : start < pair_at i p + pair_at i (p + 2) → pair_at i p < start + old → old ≤ pair_at i (p + 2)
-      move-apart h k =
-          let r = move-first.read.1 in
-          let a : start < move-first.start + move-first.long = omega (arith, h, r.start, r.long) in
-          let b : move-first.start < start + old = omega (arith, k, r.start) in
-          omega (arith, first-movable.1 a b, r.long)
+      pub move_apart : start < pair_at i p + pair_at i (p + 2) → pair_at i p < start + old → old ≤ pair_at i (p + 2)
+      move_apart h k =
+          let r = move_first.read.1 in
+          let a : start < move_first.start + move_first.long = omega (arith, h, r.start, r.long) in
+          let b : move_first.start < start + old = omega (arith, k, r.start) in
+          omega (arith, first_movable.1 a b, r.long)
 
-    pub move-next : n + (stop - from) ≤ length o → (o'' : List ℕ) → o'' ≡ spliced o' m (entry (moved start old new (span (pair_at i p) (pair_at i (p + 2)))))
+    pub move_next : n + (stop - from) ≤ length o → (o'' : List ℕ) → o'' ≡ spliced o' m (entry (moved start old new (span (pair_at i p) (pair_at i (p + 2)))))
         → Moving i o o'' from stop start old new n (p + 4) (m + 4) l
-    move-next room o'' e =
-        let f = move-first in
+    move_next room o'' e =
+        let f = move_first in
         let r = f.read.1 in
         let mv = moved start old new in
         let one = entry (mv (span f.start f.long)) in

@@ -46,7 +46,7 @@ use Rattle.tree_edit.specs.Operations.{new_block, new_plan, in_rooms, Editing}
 use Rattle.tree_edit.specs.Answers.{Hands, EditTold}
 use Rattle.tree_edit.specs.Inner.Moving.{Movable, Parted, Rewrites, moved_spans, Replaces, Reaches, Owns, Gives}
 use Rattle.tree_edit.specs.declared.edit.Edited.{Edited}
-use Rattle.tree_edit.proofs.Replacing.{Moved, around, edited-moved, replaced}
+use Rattle.tree_edit.proofs.Replacing.{Moved, around, edited_moved, replaced}
 use Rattle.tree_edit.proofs.Entries.{new_long, parts_room}
 
 -- A refusal.
@@ -65,7 +65,7 @@ module _ (x s b i path block : List ℕ) (kind of start old : ℕ) (l : Language
   long_is = ap length w.plan
 
   pub parts : Moved a u start 0 (length b) (write tree t) (write tree next) (spans 0 t) (spans 0 next)
-  parts = edited-moved a u start (length b) (replaced every_kind l u (block_of start of a) path (block_of 0 kind t) w.leads) (omega (arith, long_is))
+  parts = edited_moved a u start (length b) (replaced every_kind l u (block_of start of a) path (block_of 0 kind t) w.leads) (omega (arith, long_is))
 
   start_is : start ≡ length parts.head
   start_is = parts.starts ∙ omega arith
@@ -131,8 +131,8 @@ module _ (x s b i path block : List ℕ) (kind of start old : ℕ) (l : Language
     pub first_inside : p ≤ length i
     first_inside = omega (arith, front_long)
 
-    pub last-splits : Splits i p (start + old) (spans start a) parts.back
-    last-splits =
+    pub last_splits : Splits i p (start + old) (spans start a) parts.back
+    last_splits =
         let e : p ≡ length (entries parts.front) = omega arith in
         record {
           is =
@@ -144,15 +144,15 @@ module _ (x s b i path block : List ℕ) (kind of start old : ℕ) (l : Language
         }
 
     module _ (q : ℕ) (eq : q ≡ p + length (entries (spans start a))) where
-      pub last-inside : q ≤ length i
-      last-inside =
+      pub last_inside : q ≤ length i
+      last_inside =
           let n : length (entries (spans start a ++ parts.back)) ≡ length (entries (spans start a)) + length (entries parts.back) =
           ap length (entries_append (spans start a) parts.back) ∙ length-append (entries (spans start a)) (entries parts.back) in
           omega (arith, front_long)
 
       module _ (z : ℕ) (ez : z ≡ length b - old + length block) (fits : z ≤ longest) where
-        pub new-fits : start + length block ≤ longest
-        new-fits = let h = block_inside in omega arith
+        pub new_fits : start + length block ≤ longest
+        new_fits = let h = block_inside in omega arith
 
         pub rewrites : Rewrites x s block i of start old (length b) p q l a u parts.front parts.back
         rewrites =
@@ -166,67 +166,67 @@ module _ (x s b i path block : List ℕ) (kind of start old : ℕ) (l : Language
               last = eq;
               there = w.there;
               whole = ap length w.new;
-              short = new-fits;
+              short = new_fits;
               few = index_few;
             }
 
-        pub plan-room : (plan : List ℕ) → z ≤ length plan → start + length block + (length b - (start + old)) ≤ length plan
-        plan-room plan h = let k = block_inside in omega arith
+        pub plan_room : (plan : List ℕ) → z ≤ length plan → start + length block + (length b - (start + old)) ≤ length plan
+        plan_room plan h = let k = block_inside in omega arith
 
         -- The length of the new index.
         module _ (end : ℕ) (ee : end ≡ p + length (entries (spans start u))) where
-          pub length-small : end + (length i - q) < last_place
-          length-small =
+          pub length_small : end + (length i - q) < last_place
+          length_small =
               let y = parts_room x s block i of start old (length b) p q l a u parts.front parts.back rewrites
               (length (entries (moved_spans start old u parts.front parts.back))) (omega arith) in
               omega (arith, y.3)
 
           module _ (n : ℕ) (en : n ≡ end + (length i - q)) where
-            pub length-is : n ≡ length (entries (moved_spans start old u parts.front parts.back))
-            length-is = let m = new_long x s block i of start old (length b) p q l a u parts.front parts.back rewrites in omega arith
+            pub length_is : n ≡ length (entries (moved_spans start old u parts.front parts.back))
+            length_is = let m = new_long x s block i of start old (length b) p q l a u parts.front parts.back rewrites in omega arith
 
-            whole-index : n ≡ length (index_of next)
-            whole-index = length-is ∙ sym (ap length index_is)
+            whole_index : n ≡ length (index_of next)
+            whole_index = length_is ∙ sym (ap length index_is)
 
-            pub plan-too-short : (plan index : List ℕ) (r : Edited) → length plan < z → Refuses OutputTooShort r
+            pub plan_too_short : (plan index : List ℕ) (r : Edited) → length plan < z → Refuses OutputTooShort r
                 → Gives (in_rooms (length plan) (length index) next) plan plan index index r
-            plan-too-short plan index r h c =
+            plan_too_short plan index r h c =
                 let y : ltb (length plan) (length (write tree next)) ≡ true = lt-ltb (length plan) (length (write tree next)) (omega (arith, new_size)) in
                 gives_refused (in_rooms (length plan) (length index) next) plan index OutputTooShort r (rw y) c
 
-            plan-fits : (plan : List ℕ) → z ≤ length plan → ltb (length plan) (length (write tree next)) ≡ false
-            plan-fits plan h = le-ltb (length plan) (length (write tree next)) (omega (arith, new_size))
+            plan_fits : (plan : List ℕ) → z ≤ length plan → ltb (length plan) (length (write tree next)) ≡ false
+            plan_fits plan h = le-ltb (length plan) (length (write tree next)) (omega (arith, new_size))
 
-            pub index-too-short : (plan index : List ℕ) (r : Edited) → z ≤ length plan → length index < n → Refuses OutputTooShort r
+            pub index_too_short : (plan index : List ℕ) (r : Edited) → z ≤ length plan → length index < n → Refuses OutputTooShort r
                 → Gives (in_rooms (length plan) (length index) next) plan plan index index r
-            index-too-short plan index r k h c =
-                let y : ltb (length index) (length (index_of next)) ≡ true = lt-ltb (length index) (length (index_of next)) (omega (arith, whole-index)) in
-                gives_refused (in_rooms (length plan) (length index) next) plan index OutputTooShort r (rw (plan-fits plan k, y)) c
+            index_too_short plan index r k h c =
+                let y : ltb (length index) (length (index_of next)) ≡ true = lt-ltb (length index) (length (index_of next)) (omega (arith, whole_index)) in
+                gives_refused (in_rooms (length plan) (length index) next) plan index OutputTooShort r (rw (plan_fits plan k, y)) c
 
-            pub both-put : (plan index : List ℕ) → z ≤ length plan → n ≤ length index → (plan' index' : List ℕ)
+            pub both_put : (plan index : List ℕ) → z ≤ length plan → n ≤ length index → (plan' index' : List ℕ)
                 → plan' ≡ spliced plan 0 (take start b ++ (block ++ drop (start + old) b))
                 → index' ≡ spliced index 0 (entries (moved_spans start old u parts.front parts.back))
                 → Gives (in_rooms (length plan) (length index) next) plan plan' index index' (record { outcome = Accepted z; indexed = n })
-            both-put plan index k h plan' index' f g =
-                let y : ltb (length index) (length (index_of next)) ≡ false = le-ltb (length index) (length (index_of next)) (omega (arith, whole-index)) in
-                rw (plan-fits plan k, y) (record {
+            both_put plan index k h plan' index' f g =
+                let y : ltb (length index) (length (index_of next)) ≡ false = le-ltb (length index) (length (index_of next)) (omega (arith, whole_index)) in
+                rw (plan_fits plan k, y) (record {
                   outcome = ap Accepted (ez ∙ sym new_size);
-                  long = whole-index;
+                  long = whole_index;
                   plan_is = f ∙ (ap (spliced plan 0) (sym bytes_are) ∙ put_first plan (write tree next));
                   index_is = g ∙ (ap (spliced index 0) (sym index_is) ∙ put_first index (index_of next));
                 })
 
   -- replace
   module _ (plan index : List ℕ) (z : ℕ) (ez : z ≡ length b - old + length block) where
-    pub plan-too-long : longest < z → (r : Edited) → Refuses NotIndexed r
+    pub plan_too_long : longest < z → (r : Edited) → Refuses NotIndexed r
         → Gives (new_plan path u t >>= λ v. in_rooms (length plan) (length index) v) plan plan index index r
-    plan-too-long h r c =
+    plan_too_long h r c =
         let y : is_long (write tree next) ≡ true = lt-ltb longest (length (write tree next)) (omega (arith, new_size)) in
         gives_refused (new_plan path u t >>= λ v. in_rooms (length plan) (length index) v) plan index NotIndexed r (rw y) c
 
-    pub plan-given : z ≤ longest → (plan' index' : List ℕ) (r : Edited) → Gives (in_rooms (length plan) (length index) next) plan plan' index index' r
+    pub plan_given : z ≤ longest → (plan' index' : List ℕ) (r : Edited) → Gives (in_rooms (length plan) (length index) next) plan plan' index index' r
         → Gives (new_plan path u t >>= λ v. in_rooms (length plan) (length index) v) plan plan' index index' r
-    plan-given h plan' index' r c =
+    plan_given h plan' index' r c =
         let y : is_long (write tree next) ≡ false = le-ltb longest (length (write tree next)) (omega (arith, new_size)) in
         rw y c
 
@@ -261,36 +261,36 @@ module _ (x s b i path block : List ℕ) (kind of start old numbers : ℕ) (l : 
     read_is : rest_at block r ≡ rest_of what
     read_is = er ∙ ap (λ (m : ℕ). rest_of (Meant.read tree l [] m of block)) (en ∙ ap (λ (m : ℕ). 64 - m) w.numbers_are)
 
-    pub block-deep : (plan index : List ℕ) → r ≡ Deep → (e : Edited) → Refuses TooDeep e → Gives (After plan index (new_block l path (block_of start of a) block)) plan plan index index e
-    block-deep plan index q e c =
+    pub block_deep : (plan index : List ℕ) → r ≡ Deep → (e : Edited) → Refuses TooDeep e → Gives (After plan index (new_block l path (block_of start of a) block)) plan plan index index e
+    block_deep plan index q e c =
         let z : what ≡ Meant.deep = deep_of what (sym (ap (rest_at block) q) ∙ read_is) in
         gives_refused (After plan index (whole_tree what)) plan index TooDeep e (ap (λ (o : Meant.Read Code). After plan index (whole_tree o)) z) c
 
-    pub block-broken : (plan index : List ℕ) → r ≡ Broken → (e : Edited) → Refuses IllegalTree e → Gives (After plan index (new_block l path (block_of start of a) block)) plan plan index index e
-    block-broken plan index q e c =
+    pub block_broken : (plan index : List ℕ) → r ≡ Broken → (e : Edited) → Refuses IllegalTree e → Gives (After plan index (new_block l path (block_of start of a) block)) plan plan index index e
+    block_broken plan index q e c =
         let z : what ≡ Meant.broken = broken_of what (sym (ap (rest_at block) q) ∙ read_is) in
         gives_refused (After plan index (whole_tree what)) plan index IllegalTree e (ap (λ (o : Meant.Read Code). After plan index (whole_tree o)) z) c
 
     module _ (e : ℕ) (q : r ≡ End e) (inside : EndsBy (length block) r) where
-      pub done-is : (u : Code) × (what ≡ Meant.done u (drop e block))
-      done-is = done_of what (drop e block) (sym (ap (rest_at block) q) ∙ read_is)
+      pub done_is : (u : Code) × (what ≡ Meant.done u (drop e block))
+      done_is = done_of what (drop e block) (sym (ap (rest_at block) q) ∙ read_is)
 
-      pub block-left : (plan index : List ℕ) → (e ≡ length block → ⊥) → (d : Edited) → Refuses IllegalTree d
+      pub block_left : (plan index : List ℕ) → (e ≡ length block → ⊥) → (d : Edited) → Refuses IllegalTree d
           → Gives (After plan index (new_block l path (block_of start of a) block)) plan plan index index d
-      block-left plan index h d c =
+      block_left plan index h d c =
           let j : e ≤ length block = rw q at inside in
           let g : e < length block = omega arith in
           gives_refused (After plan index (whole_tree what)) plan index IllegalTree d
-          (ap (λ (o : Meant.Read Code). After plan index (whole_tree o)) (done-is.1 ∙ ap (Meant.done done-is.0) (front block e g))) c
+          (ap (λ (o : Meant.Read Code). After plan index (whole_tree o)) (done_is.1 ∙ ap (Meant.done done_is.0) (front block e g))) c
 
       module _ (all : e ≡ length block) where
-        whole_is : what ≡ Meant.done done-is.0 []
-        whole_is = done-is.1 ∙ ap (Meant.done done-is.0) (drop_of_length-le block {i = e} (omega arith))
+        whole_is : what ≡ Meant.done done_is.0 []
+        whole_is = done_is.1 ∙ ap (Meant.done done_is.0) (drop_of_length-le block {i = e} (omega arith))
 
-        pub block-replaces : ((j : ℕ) → get_or block j 0 < 256) → Replaces x s b i path block kind of start old l t a done-is.0
-        block-replaces bytes =
-            let g = read_done tree l [] (tree_levels - length path) of block done-is.0 [] whole_is in
-            let y : block ≡ write tree done-is.0 ++ [] = (g.2 (bytes_from block (λ j h. bytes j))).0 in
+        pub block_replaces : ((j : ℕ) → get_or block j 0 < 256) → Replaces x s b i path block kind of start old l t a done_is.0
+        block_replaces bytes =
+            let g = read_done tree l [] (tree_levels - length path) of block done_is.0 [] whole_is in
+            let y : block ≡ write tree done_is.0 ++ [] = (g.2 (bytes_from block (λ j h. bytes j))).0 in
             record {
               plan = w.plan;
               own = w.own;
@@ -301,13 +301,13 @@ module _ (x s b i path block : List ℕ) (kind of start old numbers : ℕ) (l : 
                 index_of = w.index_of;
                 lies = record { rest = []; is = y; inside = omega arith; typed = g.0; within = let m = g.1 in omega arith; known = w.known };
               };
-              new = y ∙ append-nil (write tree done-is.0);
+              new = y ∙ append-nil (write tree done_is.0);
             }
 
-        pub block-given : (plan index plan' index' : List ℕ) (d : Edited) → Gives (new_plan path done-is.0 t >>= λ v. in_rooms (length plan) (length index) v) plan plan' index index' d
+        pub block_given : (plan index plan' index' : List ℕ) (d : Edited) → Gives (new_plan path done_is.0 t >>= λ v. in_rooms (length plan) (length index) v) plan plan' index index' d
             → Gives (After plan index (new_block l path (block_of start of a) block)) plan plan' index index' d
-        block-given plan index plan' index' d c =
-            let z : new_block l path (block_of start of a) block ≡ value done-is.0 = ap whole_tree whole_is in
+        block_given plan index plan' index' d c =
+            let z : new_block l path (block_of start of a) block ≡ value done_is.0 = ap whole_tree whole_is in
             rw z c
 
 -- edit_legal
@@ -329,27 +329,27 @@ module _ (x s b i path : List ℕ) (kind : ℕ) (l : Language) (t : Code) (sees 
       (ap (λ (o : Reached). Whole block plan index (found o)) (er.unseen q)) c
 
   module _ (a k p : ℕ) (q : r ≡ To a k p) where
-    pub path-entry : (v : List ℕ) × Entry i p a (size (er.to a k p q).0) v
-    path-entry = entered_own i p a (er.to a k p q).0 (er.to a k p q).2.entered
+    pub path_entry : (v : List ℕ) × Entry i p a (size (er.to a k p q).0) v
+    path_entry = entered_own i p a (er.to a k p q).0 (er.to a k p q).2.entered
 
-    pub path-reaches : (n : ℕ) → n ≡ pair_at i (p + 2) → (m : ℕ) → m ≡ length path → Reaches x s b i path kind k a n m l t (er.to a k p q).0
-    path-reaches n en m em =
+    pub path_reaches : (n : ℕ) → n ≡ pair_at i (p + 2) → (m : ℕ) → m ≡ length path → Reaches x s b i path kind k a n m l t (er.to a k p q).0
+    path_reaches n en m em =
         let z = er.to a k p q in
         record {
           plan = w.plan;
           own = w.own;
           short = w.along.short;
           leads = seen_reached sees l (block_of a k z.0) path (block_of 0 kind t) z.1;
-          size_is = en ∙ path-entry.1.long;
+          size_is = en ∙ path_entry.1.long;
           numbers_are = em;
           index_of = z.2.there.index_of;
           known = z.2.there.lies.known;
         }
 
-    pub path-given : (block plan index plan' index' : List ℕ) (e : Edited)
+    pub path_given : (block plan index plan' index' : List ℕ) (e : Edited)
         → Gives ((new_block l path (block_of a k (er.to a k p q).0) block >>= λ u. new_plan path u t) >>= λ v. in_rooms (length plan) (length index) v) plan plan' index index' e
         → Gives (Whole block plan index (found (block_at sees l path (block_of 0 kind t)))) plan plan' index index' e
-    path-given block plan index plan' index' e c = rw (er.to a k p q).1 c
+    path_given block plan index plan' index' e c = rw (er.to a k p q).1 c
 
 -- The answer told by numbers.
 pub tells : (d : Editing) (plan index : List ℕ) (r : Edited) → Hands d plan index r → (n m : ℕ) → n ≡ number_of r.outcome → m ≡ length_of r.outcome

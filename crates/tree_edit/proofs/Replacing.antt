@@ -73,19 +73,19 @@ module _ (s old top : ℕ) where
   mutual
     unfolding spans write
 
-    movable-spans : (c : Code) (at : ℕ) → at + size c ≤ top → Apart at (at + size c) → Movable s old top (spans at c)
-    movable-spans (node k p ts) at h q =
-        (h, q at (size (node k p ts)) (omega arith) (omega arith), movable-all ts (at + 1) (omega arith) (λ x n i j. q x n (omega arith) (omega arith)))
-    movable-spans (token v) at h q = (h, q at 2 (omega arith) (omega arith), tt)
-    movable-spans (argument i zero) at h q = (h, q at 1 (omega arith) (omega arith), tt)
-    movable-spans (argument i (suc m)) at h q = (h, q at 2 (omega arith) (omega arith), tt)
+    movable_spans : (c : Code) (at : ℕ) → at + size c ≤ top → Apart at (at + size c) → Movable s old top (spans at c)
+    movable_spans (node k p ts) at h q =
+        (h, q at (size (node k p ts)) (omega arith) (omega arith), movable_all ts (at + 1) (omega arith) (λ x n i j. q x n (omega arith) (omega arith)))
+    movable_spans (token v) at h q = (h, q at 2 (omega arith) (omega arith), tt)
+    movable_spans (argument i zero) at h q = (h, q at 1 (omega arith) (omega arith), tt)
+    movable_spans (argument i (suc m)) at h q = (h, q at 2 (omega arith) (omega arith), tt)
 
-    movable-all : (ts : Codes) (at : ℕ) → at + length (write_all tree ts) ≤ top → Apart at (at + length (write_all tree ts)) → Movable s old top (spans_all at ts)
-    movable-all nil at h q = tt
-    movable-all (cons a ts) at h q =
+    movable_all : (ts : Codes) (at : ℕ) → at + length (write_all tree ts) ≤ top → Apart at (at + length (write_all tree ts)) → Movable s old top (spans_all at ts)
+    movable_all nil at h q = tt
+    movable_all (cons a ts) at h q =
         let n = length-append (write tree a) (write_all tree ts) in
-        movable_append (spans at a) (spans_all (at + size a) ts) (movable-spans a at (omega arith) (λ x m i j. q x m i (omega arith)))
-        (movable-all ts (at + size a) (omega arith) (λ x m i j. q x m (omega arith) (omega arith)))
+        movable_append (spans at a) (spans_all (at + size a) ts) (movable_spans a at (omega arith) (λ x m i j. q x m i (omega arith)))
+        (movable_all ts (at + size a) (omega arith) (λ x m i j. q x m (omega arith) (omega arith)))
 
 -- One span moved.
 module _ (s old new : ℕ) (some : 1 ≤ old) where
@@ -105,38 +105,38 @@ module _ (s old new : ℕ) (some : 1 ≤ old) where
   mutual
     unfolding spans write
 
-    spans-stay : (c : Code) (at : ℕ) → at + size c ≤ s → map (moved s old new) (spans at c) ≡ spans at c
-    spans-stay (node k p ts) at h = λ i. moved_stays at (size (node k p ts)) h i ∷ spans-all-stay ts (at + 1) (omega arith) i
-    spans-stay (token v) at h = ap (λ (z : Span). z ∷ []) (moved_stays at 2 h)
-    spans-stay (argument j m) at h = ap (λ (z : Span). z ∷ []) (moved_stays at (size (argument j m)) h)
+    spans_stay : (c : Code) (at : ℕ) → at + size c ≤ s → map (moved s old new) (spans at c) ≡ spans at c
+    spans_stay (node k p ts) at h = λ i. moved_stays at (size (node k p ts)) h i ∷ spans_all_stay ts (at + 1) (omega arith) i
+    spans_stay (token v) at h = ap (λ (z : Span). z ∷ []) (moved_stays at 2 h)
+    spans_stay (argument j m) at h = ap (λ (z : Span). z ∷ []) (moved_stays at (size (argument j m)) h)
 
-    spans-all-stay : (ts : Codes) (at : ℕ) → at + length (write_all tree ts) ≤ s → map (moved s old new) (spans_all at ts) ≡ spans_all at ts
-    spans-all-stay nil at h = refl
-    spans-all-stay (cons a ts) at h =
+    spans_all_stay : (ts : Codes) (at : ℕ) → at + length (write_all tree ts) ≤ s → map (moved s old new) (spans_all at ts) ≡ spans_all at ts
+    spans_all_stay nil at h = refl
+    spans_all_stay (cons a ts) at h =
         let e = length-append (write tree a) (write_all tree ts) in
         map_append (moved s old new) (spans at a) (spans_all (at + size a) ts)
-        ∙ (ap (λ (z : List Span). z ++ map (moved s old new) (spans_all (at + size a) ts)) (spans-stay a at (omega arith))
-        ∙ ap (λ (z : List Span). spans at a ++ z) (spans-all-stay ts (at + size a) (omega arith)))
+        ∙ (ap (λ (z : List Span). z ++ map (moved s old new) (spans_all (at + size a) ts)) (spans_stay a at (omega arith))
+        ∙ ap (λ (z : List Span). spans at a ++ z) (spans_all_stay ts (at + size a) (omega arith)))
 
   -- Those of a tree behind it are shifted.
   mutual
     unfolding spans write
 
-    spans-shift : (c : Code) (at : ℕ) → s + old ≤ at → map (moved s old new) (spans at c) ≡ spans (at + new - old) c
-    spans-shift (node k p ts) at h =
+    spans_shift : (c : Code) (at : ℕ) → s + old ≤ at → map (moved s old new) (spans at c) ≡ spans (at + new - old) c
+    spans_shift (node k p ts) at h =
         let e : at + 1 + new - old ≡ at + new - old + 1 = omega arith in
-        (λ i. moved_shifts at (size (node k p ts)) h i ∷ spans-all-shift ts (at + 1) (omega arith) i)
+        (λ i. moved_shifts at (size (node k p ts)) h i ∷ spans_all_shift ts (at + 1) (omega arith) i)
         ∙ ap (λ (j : ℕ). span (at + new - old) (size (node k p ts)) ∷ spans_all j ts) e
-    spans-shift (token v) at h = ap (λ (z : Span). z ∷ []) (moved_shifts at 2 h)
-    spans-shift (argument j m) at h = ap (λ (z : Span). z ∷ []) (moved_shifts at (size (argument j m)) h)
+    spans_shift (token v) at h = ap (λ (z : Span). z ∷ []) (moved_shifts at 2 h)
+    spans_shift (argument j m) at h = ap (λ (z : Span). z ∷ []) (moved_shifts at (size (argument j m)) h)
 
-    spans-all-shift : (ts : Codes) (at : ℕ) → s + old ≤ at → map (moved s old new) (spans_all at ts) ≡ spans_all (at + new - old) ts
-    spans-all-shift nil at h = refl
-    spans-all-shift (cons a ts) at h =
+    spans_all_shift : (ts : Codes) (at : ℕ) → s + old ≤ at → map (moved s old new) (spans_all at ts) ≡ spans_all (at + new - old) ts
+    spans_all_shift nil at h = refl
+    spans_all_shift (cons a ts) at h =
         let e : at + size a + new - old ≡ at + new - old + size a = omega arith in
         map_append (moved s old new) (spans at a) (spans_all (at + size a) ts)
-        ∙ (ap (λ (z : List Span). z ++ map (moved s old new) (spans_all (at + size a) ts)) (spans-shift a at h)
-        ∙ (ap (λ (z : List Span). spans (at + new - old) a ++ z) (spans-all-shift ts (at + size a) (omega arith))
+        ∙ (ap (λ (z : List Span). z ++ map (moved s old new) (spans_all (at + size a) ts)) (spans_shift a at h)
+        ∙ (ap (λ (z : List Span). spans (at + new - old) a ++ z) (spans_all_shift ts (at + size a) (omega arith))
         ∙ ap (λ (j : ℕ). spans (at + new - old) a ++ spans_all j ts) e))
 
 -- Bytes and spans before and after the edit, in parts.
@@ -237,7 +237,7 @@ module _ (a b : Code) (s top : ℕ) where
       let low : s + size a ≤ at + size c = omega arith in
       let e : at + size c + size b - size a ≡ at + size d = omega arith in
       let later = spans_all (at + size c) ts in
-      let shifted : map mv later ≡ spans_all (at + size d) ts = spans-all-shift s (size a) (size b) one ts (at + size c) low ∙ ap (λ (j : ℕ). spans_all j ts) e in
+      let shifted : map mv later ≡ spans_all (at + size d) ts = spans_all_shift s (size a) (size b) one ts (at + size c) low ∙ ap (λ (j : ℕ). spans_all j ts) e in
       record {
         head = m.head;
         tail = m.tail ++ write_all tree ts;
@@ -255,7 +255,7 @@ module _ (a b : Code) (s top : ℕ) where
         below = m.below;
         behind = behind_append (s + size a) m.back later m.behind (behind_row ts (s + size a) (at + size c) low);
         in_front = m.in_front;
-        at_back = movable_append s (size a) top m.back later m.at_back (movable-all s (size a) top ts (at + size c) (omega arith) (λ x y i j k l. omega arith));
+        at_back = movable_append s (size a) top m.back later m.at_back (movable_all s (size a) top ts (at + size c) (omega arith) (λ x y i j k l. omega arith));
       }
 
   moved_past : (at : ℕ) (c : Code) (ts us : Codes) → at + length (write_all tree (cons c ts)) ≤ top
@@ -268,7 +268,7 @@ module _ (a b : Code) (s top : ℕ) where
       let st = m.starts in
       let one = size_some a in
       let high : at + size c ≤ s = omega arith in
-      let stay = spans-stay s (size a) (size b) one c at high in
+      let stay = spans_stay s (size a) (size b) one c at high in
       record {
         head = write tree c ++ m.head;
         tail = m.tail;
@@ -285,23 +285,23 @@ module _ (a b : Code) (s top : ℕ) where
             (ap (λ (z : List Span). z ++ map mv m.front) (sym stay) ∙ sym (map_append mv (spans at c) m.front)));
         below = below_append s (spans at c) m.front (spans_below c at s high) m.below;
         behind = m.behind;
-        in_front = movable_append s (size a) top (spans at c) m.front (movable-spans s (size a) top c at (omega arith) (λ x y i j k l. omega arith)) m.in_front;
+        in_front = movable_append s (size a) top (spans at c) m.front (movable_spans s (size a) top c at (omega arith) (λ x y i j k l. omega arith)) m.in_front;
         at_back = m.at_back;
       }
 
   mutual
     unfolding write
 
-    pub edited-moved : {path : List ℕ} {at : ℕ} {t r : Code} → Edited a b s path at t r → at + size t ≤ top → Moved a b s at top (write tree t) (write tree r) (spans at t) (spans at r)
-    edited-moved {at = at} (whole e d q) h = rw (e, d) (moved_whole at q)
-    edited-moved {at = at} (inside {k = k} {p = p} {ts = ts} {us = us} w) h = moved_node at k p ts us h (edited-moved-in w (omega arith))
+    pub edited_moved : {path : List ℕ} {at : ℕ} {t r : Code} → Edited a b s path at t r → at + size t ≤ top → Moved a b s at top (write tree t) (write tree r) (spans at t) (spans at r)
+    edited_moved {at = at} (whole e d q) h = rw (e, d) (moved_whole at q)
+    edited_moved {at = at} (inside {k = k} {p = p} {ts = ts} {us = us} w) h = moved_node at k p ts us h (edited_moved_in w (omega arith))
 
-    edited-moved-in : {n at : ℕ} {path : List ℕ} {ts us : Codes} → EditedIn a b s n path at ts us → at + length (write_all tree ts) ≤ top
+    edited_moved_in : {n at : ℕ} {path : List ℕ} {ts us : Codes} → EditedIn a b s n path at ts us → at + length (write_all tree ts) ≤ top
         → Moved a b s at top (write_all tree ts) (write_all tree us) (spans_all at ts) (spans_all at us)
-    edited-moved-in {at = at} (here {c = c} {d = d} {ts = ts} w) h =
-        let n = size_cons c ts in moved_here at c d ts h (edited-moved w (omega arith))
-    edited-moved-in {at = at} (past {c = c} {ts = ts} {us = us} w) h =
-        let n = size_cons c ts in moved_past at c ts us h (edited-moved-in w (omega arith))
+    edited_moved_in {at = at} (here {c = c} {d = d} {ts = ts} w) h =
+        let n = size_cons c ts in moved_here at c d ts h (edited_moved w (omega arith))
+    edited_moved_in {at = at} (past {c = c} {ts = ts} {us = us} w) h =
+        let n = size_cons c ts in moved_past at c ts us h (edited_moved_in w (omega arith))
 
 -- What replacing makes is such an edit, where the path leads to a block.
 module _ (sees : ℕ → Bool) (l : Language) (b : Code) (c : Block) where

@@ -14,7 +14,7 @@ use Rattle.format_fields.proofs.Codec.{bytes_from, value_inj, step_value}
 use Rattle.format_language.specs.Language.{Language, arguments_of}
 use Rattle.format_language.specs.LanguageFile.{language_of}
 use Rattle.tree_reader.specs.Code.{Code, node, token, argument, Codes, nil, cons, levels, levels_all}
-use Rattle.tree_reader.specs.Typing.{Typed, TypedAll, typed-node, typed-token, typed-argument, typed-cons}
+use Rattle.tree_reader.specs.Typing.{Typed, TypedAll, typed_node, typed_token, typed_argument, typed_cons}
 use Rattle.tree_reader.specs.Syntax.{done, read, write, tree}
 use Rattle.tree_reader.specs.Operations.{tree_levels, tree_of}
 use Rattle.tree_reader.proofs.Sound.{Right, read_done}
@@ -37,7 +37,7 @@ use Rattle.tree_block.proofs.Legal.{found_reached}
 use Rattle.tree_edit.specs.Plans.{replace_after, replace_at}
 use Rattle.tree_edit.specs.Operations.{new_block, edit_plan}
 use Rattle.tree_edit.specs.Laws.{Edits, EditsAreSound}
-use Rattle.tree_edit.proofs.Replacing.{Edited, whole, inside, EditedIn, here, past, Moved, around, edited-moved, replaced}
+use Rattle.tree_edit.proofs.Replacing.{Edited, whole, inside, EditedIn, here, past, Moved, around, edited_moved, replaced}
 
 -- Levels: a path goes no deeper than the tree, and the new tree is no deeper than the old one or than the new block at its
 -- place.
@@ -45,15 +45,15 @@ module _ {a b : Code} {s : ℕ} where
   mutual
     unfolding levels
 
-    edited-levels : {path : List ℕ} {at : ℕ} {t r : Code} → Edited a b s path at t r
+    edited_levels : {path : List ℕ} {at : ℕ} {t r : Code} → Edited a b s path at t r
         → (length path ≤ levels t) × (levels r ≤ max (levels t) (length path + levels b))
-    edited-levels (whole e d q) = rw d (omega arith, omega arith)
-    edited-levels (inside w) = let z = edited-in-levels w in (omega arith, omega arith)
+    edited_levels (whole e d q) = rw d (omega arith, omega arith)
+    edited_levels (inside w) = let z = edited_in_levels w in (omega arith, omega arith)
 
-    edited-in-levels : {n at : ℕ} {path : List ℕ} {ts us : Codes} → EditedIn a b s n path at ts us
+    edited_in_levels : {n at : ℕ} {path : List ℕ} {ts us : Codes} → EditedIn a b s n path at ts us
         → (length path ≤ levels_all ts) × (levels_all us ≤ max (levels_all ts) (length path + levels b))
-    edited-in-levels (here w) = let z = edited-levels w in (omega arith, omega arith)
-    edited-in-levels (past w) = let z = edited-in-levels w in (omega arith, omega arith)
+    edited_in_levels (here w) = let z = edited_levels w in (omega arith, omega arith)
+    edited_in_levels (past w) = let z = edited_in_levels w in (omega arith, omega arith)
 
 -- The argument at which a path goes on, and what becomes of it.
 module _ (h : Code → Code) (d : Block) where
@@ -70,11 +70,11 @@ module _ (h : Code → Code) (d : Block) where
   unfolding argument_after replace_after
   after_typed l [] ts n at w e g = none_some e
   after_typed l (k ∷ ks) nil n at w e g = none_some e
-  after_typed l (k ∷ ks) (cons t ts) zero at (typed-cons y ys) e g =
+  after_typed l (k ∷ ks) (cons t ts) zero at (typed_cons y ys) e g =
       let q : block_of at k t ≡ d = some_inj e in
       let z : Typed l [] (h t) k = subst (λ (x : Block). Typed l [] x.subtree x.kind → Typed l [] (h x.subtree) x.kind) (sym q) g y in
-      typed-cons z ys
-  after_typed l (k ∷ ks) (cons t ts) (suc n) at (typed-cons y ys) e g = typed-cons y (after_typed l ks ts n (at + size t) ys e g)
+      typed_cons z ys
+  after_typed l (k ∷ ks) (cons t ts) (suc n) at (typed_cons y ys) e g = typed_cons y (after_typed l ks ts n (at + size t) ys e g)
 
 module _ (l : Language) (path : List ℕ) (u : Code) (d : Block) where
   argument_replaced : (i at : ℕ) (t : Code) → argument_of l at t i ≡ some d
@@ -88,12 +88,12 @@ module _ (l : Language) (path : List ℕ) (u : Code) (d : Block) where
   argument_typed : (i at : ℕ) (t : Code) (k : ℕ) → Typed l [] t k → argument_of l at t i ≡ some d
       → (Typed l [] d.subtree d.kind → Typed l [] (replace_at path u d.subtree) d.kind) → Typed l [] (replace_at (i ∷ path) u t) k
   unfolding argument_of replace_at
-  argument_typed zero at t k (typed-node e w) q g = none_some q
-  argument_typed (suc n) at t k (typed-node {p = p} {t = ts} {ks = ks} e w) q g =
+  argument_typed zero at t k (typed_node e w) q g = none_some q
+  argument_typed (suc n) at t k (typed_node {p = p} {t = ts} {ks = ks} e w) q g =
       let f : argument_after ks ts n (at + 1) ≡ some d = sym (ap (λ (o : Option (List ℕ)). argument_after (get_or o []) ts n (at + 1)) e) ∙ q in
-      typed-node e (after_typed (replace_at path u) d l ks ts n (at + 1) w f g)
-  argument_typed i at t k (typed-token e w) q g = none_some q
-  argument_typed i at t k (typed-argument e) q g = none_some q
+      typed_node e (after_typed (replace_at path u) d l ks ts n (at + 1) w f g)
+  argument_typed i at t k (typed_token e w) q g = none_some q
+  argument_typed i at t k (typed_argument e) q g = none_some q
 
 -- The path on the new plan, and its type.
 module _ (l : Language) (u : Code) (c : Block) where
@@ -151,13 +151,13 @@ module _ (s : List ℕ) (root : ℕ) (bytes index path card block : List ℕ) (b
   made = replaced every_kind l u c path (block_of 0 root t) ec
 
   parts : Moved c.subtree u c.start 0 (size t) (write tree t) (write tree next) (spans 0 t) (spans 0 next)
-  parts = edited-moved c.subtree u c.start (size t) made (omega arith)
+  parts = edited_moved c.subtree u c.start (size t) made (omega arith)
 
   next_typed : Typed l [] next root
   next_typed = path_typed l u c path (block_of 0 root t) ec lies.typed new_right.0
 
   next_levels : levels next ≤ tree_levels
-  next_levels = let z = edited-levels made in let n = new_right.1 in let m = lies.within in omega (arith, z.0, z.1)
+  next_levels = let z = edited_levels made in let n = new_right.1 in let m = lies.within in omega (arith, z.0, z.1)
 
   next_tree : tree_of l root (write tree next) ≡ value next
   next_tree =

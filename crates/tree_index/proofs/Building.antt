@@ -22,7 +22,7 @@ use Rattle.tree_reader.specs.Code.{Code}
 use Rattle.tree_reader.specs.Syntax.{write, write_all, tree}
 use Rattle.tree_reader.specs.Operations.{check_tree}
 use Rattle.format_translation.specs.Operations.{fitted}
-use Rattle.check_operations.proofs.Legal.{Checked, refused-tree}
+use Rattle.check_operations.proofs.Legal.{Checked, refused_tree}
 use Rattle.tree_index.specs.Spans.{span, size, spans, spans_all, entry, entries, index_of}
 use Rattle.tree_index.specs.Operations.{longest, is_long, index_bytes, index_tree}
 use Rattle.tree_index.specs.Inner.Lying.{There, Opens}
@@ -96,42 +96,42 @@ module _ (i : List ℕ) (t : Code) where
     abbrev inner : List ℕ
     inner = entries (spans_all to p.operands)
 
-    own-are : entries (spans 0 t) ≡ own ++ inner
-    own-are =
+    own_are : entries (spans 0 t) ≡ own ++ inner
+    own_are =
         let z : 0 + p.front ≡ to = omega (arith, p.past) in
         ap entries (shape_spans p.shape 0 ∙ ap (λ (j : ℕ). span 0 (size t) ∷ spans_all j p.operands) z)
         ∙ entries_cons (span 0 (size t)) (spans_all to p.operands)
 
-    own-end : size t ≡ to + length (write_all tree p.operands)
-    own-end = omega (arith, shape_size p.shape, p.past)
+    own_end : size t ≡ to + length (write_all tree p.operands)
+    own_end = omega (arith, shape_size p.shape, p.past)
 
-    entries-four : length (entries (spans 0 t)) ≡ 4 + length inner
-    entries-four = ap length own-are ∙ (length-append own inner ∙ ap (λ (j : ℕ). j + length inner) (entry_length 0 (size t)))
+    entries_four : length (entries (spans 0 t)) ≡ 4 + length inner
+    entries_four = ap length own_are ∙ (length-append own inner ∙ ap (λ (j : ℕ). j + length inner) (entry_length 0 (size t)))
 
-    own-four : 4 ≡ 0 + length own
-    own-four = omega (arith, entry_length 0 (size t))
+    own_four : 4 ≡ 0 + length own
+    own_four = omega (arith, entry_length 0 (size t))
 
     module _ (y : ℕ) (ey : y ≡ pair_at i (0 + 2)) (r : ℕ) (er : Compares i 4 to p.operands y r) where
-      own-claims : same_numbers i (index_of t) ≡ true → Claims i 4 to p.operands y
-      own-claims q =
-          let h : Has i 0 (own ++ inner) = rw own-are at (own_has q) in
+      own_claims : same_numbers i (index_of t) ≡ true → Claims i 4 to p.operands y
+      own_claims q =
+          let h : Has i 0 (own ++ inner) = rw own_are at (own_has q) in
           let a = has_front i 0 own inner h in
           let c = entry_read i 0 0 (size t) a.rest a.is in
-          record { has = has_back i 0 own inner h 4 own-four; ends = sym own-end ∙ (sym c.long ∙ sym ey) }
+          record { has = has_back i 0 own inner h 4 own_four; ends = sym own_end ∙ (sym c.long ∙ sym ey) }
 
-      pub own-compared : 0 + 4 ≤ length i → ((j : ℕ) → get_or i j 0 < 256) → pair_at i 0 ≡ 0 → eqb r (length i) ≡ same_numbers i (index_of t)
-      own-compared inside bytes start =
+      pub own_compared : 0 + 4 ≤ length i → ((j : ℕ) → get_or i j 0 < 256) → pair_at i 0 ≡ 0 → eqb r (length i) ≡ same_numbers i (index_of t)
+      own_compared inside bytes start =
           same_truth (eqb r (length i)) (same_numbers i (index_of t))
           (λ q.
           let n = eqb-true r (length i) q in
           let g : 0 < r = omega arith in
           let c = er.same g in
-          let z : pair_at i (0 + 2) ≡ size t = sym ey ∙ (sym c.0.ends ∙ sym own-end) in
-          let h : Has i 0 (entries (spans 0 t)) = rw own-are (has_both i 0 own inner (entry_has i 0 0 (size t) inside bytes start z) 4 own-four c.0.has) in
-          has_own h (omega (arith, c.1, entries-four)))
+          let z : pair_at i (0 + 2) ≡ size t = sym ey ∙ (sym c.0.ends ∙ sym own_end) in
+          let h : Has i 0 (entries (spans 0 t)) = rw own_are (has_both i 0 own inner (entry_has i 0 0 (size t) inside bytes start z) 4 own_four c.0.has) in
+          has_own h (omega (arith, c.1, entries_four)))
           (λ q.
-          let g : 0 < r = above r (λ z. er.other z (own-claims q)) in
-          eq-eqb r (length i) (omega (arith, (er.same g).1, own_long q, entries-four)))
+          let g : 0 < r = above r (λ z. er.other z (own_claims q)) in
+          eq-eqb r (length i) (omega (arith, (er.same g).1, own_long q, entries_four)))
 
 -- What is put at the start of an output.
 pub put_first : (o v : List ℕ) → spliced o 0 v ≡ v ++ drop (length v) o
@@ -162,7 +162,7 @@ module _ (s : List ℕ) (root : ℕ) (b o : List ℕ) {out : Outcome} (eo : out 
   pub index_refused : {x : Reason} → out ≡ Refused x → {y : Outcome} → y ≡ Refused x → (y ≡ (index_tree s root b o).outcome) × (o ≡ (index_tree s root b o).output)
   unfolding index_tree index_bytes
   index_refused {x} q {y} z =
-      let e : index_bytes s root b (length o) ≡ refused x = refused-tree s root b (λ l t. refuse_if (is_long b) NotIndexed (fitted (length o) (index_of t))) (sym eo ∙ q) in
+      let e : index_bytes s root b (length o) ≡ refused x = refused_tree s root b (λ l t. refuse_if (is_long b) NotIndexed (fitted (length o) (index_of t))) (sym eo ∙ q) in
       (z ∙ sym (ap written e), sym (ap (output_after o) e))
 
   module _ {n : ℕ} (accepted : out ≡ Accepted n) where
@@ -177,8 +177,8 @@ module _ (s : List ℕ) (root : ℕ) (b o : List ℕ) {out : Outcome} (eo : out 
     unfolding index_tree
     index_long h {y} z = let t : is_long b ≡ true = lt-ltb longest (length b) h in rw (index_is, t) (z, refl)
 
-    pub index-given : length b ≤ longest → {y : Outcome} {o' : List ℕ}
+    pub index_given : length b ≤ longest → {y : Outcome} {o' : List ℕ}
         → (y ≡ written (fitted (length o) (index_of c.subject))) × (o' ≡ output_after o (fitted (length o) (index_of c.subject)))
         → (y ≡ (index_tree s root b o).outcome) × (o' ≡ (index_tree s root b o).output)
     unfolding index_tree
-    index-given h w = let t : is_long b ≡ false = le-ltb longest (length b) h in rw (index_is, t) w
+    index_given h w = let t : is_long b ≡ false = le-ltb longest (length b) h in rw (index_is, t) w

@@ -15,7 +15,7 @@ use Rattle.tree_index.specs.Inner.Marking.{Has}
 use Rattle.tree_index.specs.Inner.Comparing.{Claims, Compares}
 use Rattle.tree_index.proofs.Rows.{kinds_end, Turn, turn, none_left}
 use Rattle.tree_index.proofs.Pairs.{entry_length, entry_read, entry_has}
-use Rattle.tree_index.proofs.Walking.{entries_cons, has_front, has_back, has_both, no_trees, turn_long, turn_spans, turn_levels, turn-flat, turn_below, turn-ahead, turn_end, turn-are}
+use Rattle.tree_index.proofs.Walking.{entries_cons, has_front, has_back, has_both, no_trees, turn_long, turn_spans, turn_levels, turn_flat, turn_below, turn_ahead, turn_end, turn_are}
 use Rattle.tree_index.proofs.Starts.{own_span}
 
 -- Where the loop stands: the trees that are still to be compared. The index has the entries of all exactly if it has theirs.
@@ -36,46 +36,46 @@ module _ (x s b i : List ℕ) (n at : ℕ) (ts : Codes) (stop : ℕ) (l : Langua
   differs h = record { same = λ p. absurd (omega arith); other = λ e. h }
 
   module _ (q end to m : ℕ) (w : Comparing x s b i n at ts stop q end to m l) where
-    pub compare-inside : to ≤ length b
-    compare-inside = w.row.lie.inside
+    pub compare_inside : to ≤ length b
+    compare_inside = w.row.lie.inside
 
     module _ (done : end ≤ q) where
       nothing_left : w.others ≡ nil
       nothing_left = none_left x s b to q end l w.others w.row done
 
-      pub compare-short : (to ≡ stop → ⊥) → Compares i n at ts stop 0
-      compare-short h = differs λ c. let z = (no_trees to w.others nothing_left).1 in h (omega (arith, (w.back c).ends))
+      pub compare_short : (to ≡ stop → ⊥) → Compares i n at ts stop 0
+      compare_short h = differs λ c. let z = (no_trees to w.others nothing_left).1 in h (omega (arith, (w.back c).ends))
 
-      pub compare-done : to ≡ stop → 0 < n → Compares i n at ts stop m
-      compare-done e h =
+      pub compare_done : to ≡ stop → 0 < n → Compares i n at ts stop m
+      compare_done e h =
           let z = no_trees to w.others nothing_left in
           let k : length (entries (spans_all to w.others)) ≡ 0 = ap length z.0 in
           let c : Claims i m to w.others stop = record { has = rw z.0 (record { rest = drop m i; is = refl }); ends = omega (arith, z.1) } in
           record { same = λ p. (w.onto c, omega (arith, w.long)); other = λ y. absurd (omega (arith, w.long)) }
 
     module _ (here : q < end) where
-      pub compare-turn : Turn x s b to q end l w.others
-      compare-turn = turn x s b to q end l w.others w.row here (kinds_end s q end q w.kinds (omega arith) here)
+      pub compare_turn : Turn x s b to q end l w.others
+      compare_turn = turn x s b to q end l w.others w.row here (kinds_end s q end q w.kinds (omega arith) here)
 
-      pub compare-kind : (q < length s)
-      compare-kind = (w.kinds q (omega arith) here).0
+      pub compare_kind : (q < length s)
+      compare_kind = (w.kinds q (omega arith) here).0
 
       abbrev head : Code
-      head = compare-turn.head
+      head = compare_turn.head
 
       abbrev tail : Codes
-      tail = compare-turn.tail
+      tail = compare_turn.tail
 
-      others-long : length (write_all tree w.others) ≡ size head + length (write_all tree tail)
-      others-long = turn_long x s b to q end l w.others compare-turn
+      others_long : length (write_all tree w.others) ≡ size head + length (write_all tree tail)
+      others_long = turn_long x s b to q end l w.others compare_turn
 
       -- An entry that starts elsewhere.
-      pub start-other : ((z : ℕ) → Has i m (entry (span to z)) → ⊥) → Compares i n at ts stop 0
-      start-other h = differs λ c.
+      pub start_other : ((z : ℕ) → Has i m (entry (span to z)) → ⊥) → Compares i n at ts stop 0
+      start_other h = differs λ c.
           let o = own_span to head in
           let behind = entries (spans_all (to + size head) tail) in
           let v : entries (spans_all to w.others) ≡ entry (span to (size head)) ++ (entries o.0 ++ behind) =
-          turn_spans x s b to q end l w.others compare-turn to
+          turn_spans x s b to q end l w.others compare_turn to
           ∙ (ap (λ (z : List Span). entries z ++ behind) o.1
           ∙ (ap (λ (z : List ℕ). z ++ behind) (entries_cons (span to (size head)) o.0)
           ∙ append_assoc (entry (span to (size head))) (entries o.0) behind)) in
@@ -92,17 +92,17 @@ module _ (x s b i : List ℕ) (n at : ℕ) (ts : Codes) (stop : ℕ) (l : Langua
         behind = entries (spans_all (to + size head) tail)
 
         -- The operands have fewer levels than all trees.
-        pub opens-below : f < e → levels_all p.operands < levels_all ts
-        opens-below h = omega (arith, turn_below x s b to q end l w.others compare-turn (get_or s q 0) f e t p h, w.flat)
+        pub opens_below : f < e → levels_all p.operands < levels_all ts
+        opens_below h = omega (arith, turn_below x s b to q end l w.others compare_turn (get_or s q 0) f e t p h, w.flat)
 
-        pub opens-ahead : (to < t) × (t ≤ length b)
-        opens-ahead = turn-ahead x s b to q end l w.others compare-turn (get_or s q 0) f e t p
+        pub opens_ahead : (to < t) × (t ≤ length b)
+        opens_ahead = turn_ahead x s b to q end l w.others compare_turn (get_or s q 0) f e t p
 
         node_end : to + size head ≡ t + length (write_all tree p.operands)
-        node_end = turn_end x s b to q end l w.others compare-turn (get_or s q 0) f e t p
+        node_end = turn_end x s b to q end l w.others compare_turn (get_or s q 0) f e t p
 
         all_are : entries (spans_all to w.others) ≡ own ++ (inner ++ behind)
-        all_are = turn-are x s b to q end l w.others compare-turn (get_or s q 0) f e t p 0 to t (to + size head) (omega arith) (omega arith) (omega arith)
+        all_are = turn_are x s b to q end l w.others compare_turn (get_or s q 0) f e t p 0 to t (to + size head) (omega arith) (omega arith) (omega arith)
 
         all_long : length (entries (spans_all to w.others)) ≡ 4 + (length inner + length behind)
         all_long = let a = entry_length to (size head) in ap length all_are ∙ (length-append own (inner ++ behind) ∙ omega (arith, length-append inner behind))
@@ -113,20 +113,20 @@ module _ (x s b i : List ℕ) (n at : ℕ) (ts : Codes) (stop : ℕ) (l : Langua
         module _ (y next : ℕ) (ey : y ≡ pair_at i (m + 2)) (en : next ≡ to + y) where
           -- What follows where the index has the entries of all.
           module _ (c : Claims i n at ts stop) where
-            all-has : Has i m (own ++ (inner ++ behind))
-            all-has = rw all_are at (w.back c).has
+            all_has : Has i m (own ++ (inner ++ behind))
+            all_has = rw all_are at (w.back c).has
 
-            own-next : next ≡ to + size head
-            own-next = let h = has_front i m own (inner ++ behind) all-has in let r = entry_read i m to (size head) h.rest h.is in omega (arith, r.long)
+            own_next : next ≡ to + size head
+            own_next = let h = has_front i m own (inner ++ behind) all_has in let r = entry_read i m to (size head) h.rest h.is in omega (arith, r.long)
 
-            behind-own : Has i (m + 4) (inner ++ behind)
-            behind-own = has_back i m own (inner ++ behind) all-has (m + 4) four
+            behind_own : Has i (m + 4) (inner ++ behind)
+            behind_own = has_back i m own (inner ++ behind) all_has (m + 4) four
 
-            inner-claims : Claims i (m + 4) t p.operands next
-            inner-claims = record { has = has_front i (m + 4) inner behind behind-own; ends = sym node_end ∙ sym own-next }
+            inner_claims : Claims i (m + 4) t p.operands next
+            inner_claims = record { has = has_front i (m + 4) inner behind behind_own; ends = sym node_end ∙ sym own_next }
 
-            behind-claims : (k : ℕ) → k ≡ m + 4 + length inner → Claims i k (to + size head) tail stop
-            behind-claims k ek = record { has = has_back i (m + 4) inner behind behind-own k ek; ends = omega (arith, (w.back c).ends, others-long) }
+            behind_claims : (k : ℕ) → k ≡ m + 4 + length inner → Claims i k (to + size head) tail stop
+            behind_claims k ek = record { has = has_back i (m + 4) inner behind behind_own k ek; ends = omega (arith, (w.back c).ends, others_long) }
 
           module _ (inside : m + 4 ≤ length i) (bytes : (j : ℕ) → get_or i j 0 < 256) (start : pair_at i m ≡ to) where
             -- The index has the entries of all, where the node ends as it says and it has those of the operands and of the others.
@@ -135,44 +135,44 @@ module _ (x s b i : List ℕ) (n at : ℕ) (ts : Codes) (stop : ℕ) (l : Langua
                 let z : pair_at i (m + 2) ≡ size head = omega arith in
                 record {
                   has = rw all_are (has_both i m own (inner ++ behind) (entry_has i m to (size head) inside bytes start z) (m + 4) four (has_both i (m + 4) inner behind h k ek c.has));
-                  ends = omega (arith, c.ends, others-long);
+                  ends = omega (arith, c.ends, others_long);
                 }
 
             -- Behind a node that ends as it says: the others.
             go_on : next ≡ to + size head → Has i (m + 4) inner → (k : ℕ) → k ≡ m + 4 + length inner → Comparing x s b i n at ts stop (q + 1) end next k l
             go_on a h k ek = rw a (record {
               others = tail;
-              row = compare-turn.row;
+              row = compare_turn.row;
               kinds = λ j u v. w.kinds j (omega arith) v;
               onto = λ c. w.onto (joined a h k ek c);
-              back = λ c. behind-claims c k ek;
+              back = λ c. behind_claims c k ek;
               long = omega (arith, w.long, all_long);
-              flat = omega (arith, w.flat, (turn_levels x s b to q end l w.others compare-turn).1);
+              flat = omega (arith, w.flat, (turn_levels x s b to q end l w.others compare_turn).1);
             })
 
             -- A node that has no operands.
             module _ (none : e ≤ f) where
-              none-inner : (inner ≡ []) × (length (write_all tree p.operands) ≡ 0)
-              none-inner = no_trees t p.operands (none_left x s b t f e l p.operands p.row none)
+              none_inner : (inner ≡ []) × (length (write_all tree p.operands) ≡ 0)
+              none_inner = no_trees t p.operands (none_left x s b t f e l p.operands p.row none)
 
               pub leaf_other : (next ≡ t → ⊥) → Compares i n at ts stop 0
-              leaf_other h = differs λ c. h (own-next c ∙ omega (arith, node_end, none-inner.1))
+              leaf_other h = differs λ c. h (own_next c ∙ omega (arith, node_end, none_inner.1))
 
               pub leaf_next : next ≡ t → Comparing x s b i n at ts stop (q + 1) end t (m + 4) l
               leaf_next h =
-                  let k : length inner ≡ 0 = ap length none-inner.0 in
-                  rw h at (go_on (h ∙ omega (arith, node_end, none-inner.1)) (rw none-inner.0 (record { rest = drop (m + 4) i; is = refl })) (m + 4) (omega arith))
+                  let k : length inner ≡ 0 = ap length none_inner.0 in
+                  rw h at (go_on (h ∙ omega (arith, node_end, none_inner.1)) (rw none_inner.0 (record { rest = drop (m + 4) i; is = refl })) (m + 4) (omega arith))
 
             -- Operands that were compared one call deeper.
             module _ (r : ℕ) (er : Compares i (m + 4) t p.operands next r) where
-              pub call-other : r ≡ 0 → Compares i n at ts stop 0
-              call-other h = differs λ c. er.other h (inner-claims c)
+              pub call_other : r ≡ 0 → Compares i n at ts stop 0
+              call_other h = differs λ c. er.other h (inner_claims c)
 
-              pub call-ahead : (r ≡ 0 → ⊥) → (to < next) × (next ≤ length b)
-              call-ahead h =
+              pub call_ahead : (r ≡ 0 → ⊥) → (to < next) × (next ≤ length b)
+              call_ahead h =
                   let g : 0 < r = omega arith in
                   let a : next ≡ to + size head = sym (er.same g).0.ends ∙ sym node_end in
-                  (omega (arith, node_end, opens-ahead.0), rw a compare-turn.row.lie.inside)
+                  (omega (arith, node_end, opens_ahead.0), rw a compare_turn.row.lie.inside)
 
               pub call_next : (r ≡ 0 → ⊥) → Comparing x s b i n at ts stop (q + 1) end next r l
               call_next h =
@@ -182,23 +182,23 @@ module _ (x s b i : List ℕ) (n at : ℕ) (ts : Codes) (stop : ℕ) (l : Langua
 
             -- The operands of the last of the trees.
             module _ (last : end ≤ q + 1) where
-              none-behind : (behind ≡ []) × (length (write_all tree tail) ≡ 0)
-              none-behind = no_trees (to + size head) tail (none_left x s b (to + size head) (q + 1) end l tail compare-turn.row last)
+              none_behind : (behind ≡ []) × (length (write_all tree tail) ≡ 0)
+              none_behind = no_trees (to + size head) tail (none_left x s b (to + size head) (q + 1) end l tail compare_turn.row last)
 
-              pub last-other : (next ≡ stop → ⊥) → Compares i n at ts stop 0
-              last-other h = differs λ c. h (omega (arith, own-next c, (w.back c).ends, others-long, none-behind.1))
+              pub last_other : (next ≡ stop → ⊥) → Compares i n at ts stop 0
+              last_other h = differs λ c. h (omega (arith, own_next c, (w.back c).ends, others_long, none_behind.1))
 
-              pub last-next : next ≡ stop → Comparing x s b i n at ts stop f e t (m + 4) l
-              last-next h =
-                  let k : length behind ≡ 0 = ap length none-behind.0 in
+              pub last_next : next ≡ stop → Comparing x s b i n at ts stop f e t (m + 4) l
+              last_next h =
+                  let k : length behind ≡ 0 = ap length none_behind.0 in
                   record {
                     others = p.operands;
                     row = p.row;
                     kinds = p.kinds;
                     onto = λ c.
                         let a : next ≡ to + size head = omega (arith, c.ends, node_end) in
-                        w.onto (joined a c.has (m + 4 + length inner) refl (record { has = rw none-behind.0 (record { rest = drop (m + 4 + length inner) i; is = refl }); ends = omega (arith, none-behind.1) }));
-                    back = λ c. rw h at (inner-claims c);
+                        w.onto (joined a c.has (m + 4 + length inner) refl (record { has = rw none_behind.0 (record { rest = drop (m + 4 + length inner) i; is = refl }); ends = omega (arith, none_behind.1) }));
+                    back = λ c. rw h at (inner_claims c);
                     long = omega (arith, w.long, all_long);
-                    flat = omega (arith, w.flat, turn-flat x s b to q end l w.others compare-turn (get_or s q 0) f e t p);
+                    flat = omega (arith, w.flat, turn_flat x s b to q end l w.others compare_turn (get_or s q 0) f e t p);
                   }

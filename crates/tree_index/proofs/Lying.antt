@@ -12,7 +12,7 @@ use Rattle.format_fields.proofs.Split.{front}
 use Rattle.format_language.specs.Language.{Language, is_in, arguments_of}
 use Rattle.format_language.proofs.Lookup.{arguments_mem, argument_in}
 use Rattle.tree_reader.specs.Code.{Code, node, Codes, cons, levels}
-use Rattle.tree_reader.specs.Typing.{Typed, TypedAll, typed-cons}
+use Rattle.tree_reader.specs.Typing.{Typed, TypedAll, typed_cons}
 use Rattle.tree_reader.specs.Syntax.{write, write_all, tree}
 use Rattle.tree_index.specs.Inner.Lying.{Lies, LieAll}
 
@@ -62,7 +62,7 @@ module _ (l : Language) (b : List ℕ) (at k p : ℕ) (ts : Codes) (h : Lies l b
 
 -- The first of trees in a row, and the others.
 typed_both : {l : Language} {t : Code} {ts : Codes} {k : ℕ} {ks : List ℕ} → TypedAll l [] (cons t ts) (k ∷ ks) → Typed l [] t k × TypedAll l [] ts ks
-typed_both (typed-cons h hs) = (h, hs)
+typed_both (typed_cons h hs) = (h, hs)
 
 module _ (l : Language) (b : List ℕ) (at k : ℕ) (ks : List ℕ) (t : Code) (ts : Codes) (h : LieAll l b at (k ∷ ks) (cons t ts)) where
   both_is : drop at b ≡ write tree t ++ (write_all tree ts ++ h.rest)

@@ -22,7 +22,7 @@ use Rattle.tree_reader.specs.Inner.Index.{Indexed}
 use Rattle.tree_reader.proofs.Members.{in_below}
 use Rattle.format_translation.proofs.Fitting.{refuse_value}
 use Rattle.format_translation.proofs.Accepted.{refused_not}
-use Rattle.check_operations.proofs.Legal.{tree_right, Checked, refused-tree}
+use Rattle.check_operations.proofs.Legal.{tree_right, Checked, refused_tree}
 use Rattle.check_operations.proofs.Opening.{language_facts}
 use Rattle.tree_index.specs.Spans.{index_of}
 use Rattle.tree_index.specs.Operations.{longest, is_long, indexed_tree, check_indexed}
@@ -34,7 +34,7 @@ module _ (s : List ℕ) (root : ℕ) (b i : List ℕ) {out : Outcome} (eo : out 
   pub own_refused : {x : Reason} → out ≡ Refused x → {y : Outcome} → y ≡ Refused x → y ≡ check_indexed s root b i
   unfolding check_indexed indexed_tree
   own_refused {x} q {y} z =
-      z ∙ sym (ap checked (refused-tree s root b (λ l t. refuse_if (is_long b || not (same_numbers i (index_of t))) NotIndexed (value t)) (sym eo ∙ q)))
+      z ∙ sym (ap checked (refused_tree s root b (λ l t. refuse_if (is_long b || not (same_numbers i (index_of t))) NotIndexed (value t)) (sym eo ∙ q)))
 
   module _ {n : ℕ} (accepted : out ≡ Accepted n) where
     abbrev c : Checked s root b
@@ -48,11 +48,11 @@ module _ (s : List ℕ) (root : ℕ) (b i : List ℕ) {out : Outcome} (eo : out 
     own_long h {y} z = let t : is_long b ≡ true = lt-ltb longest (length b) h in rw (own_is, t) z
 
     module _ (short : length b ≤ longest) (r : Bool) (er : r ≡ same_numbers i (index_of c.subject)) where
-      pub own-other : r ≡ false → {y : Outcome} → y ≡ Refused NotIndexed → y ≡ check_indexed s root b i
-      own-other h {y} z = let t : is_long b ≡ false = le-ltb longest (length b) short in rw (own_is, t, ← er, h) z
+      pub own_other : r ≡ false → {y : Outcome} → y ≡ Refused NotIndexed → y ≡ check_indexed s root b i
+      own_other h {y} z = let t : is_long b ≡ false = le-ltb longest (length b) short in rw (own_is, t, ← er, h) z
 
-      pub own-accepted : r ≡ true → {y : Outcome} → y ≡ Accepted 0 → y ≡ check_indexed s root b i
-      own-accepted h {y} z = let t : is_long b ≡ false = le-ltb longest (length b) short in rw (own_is, t, ← er, h) z
+      pub own_accepted : r ≡ true → {y : Outcome} → y ≡ Accepted 0 → y ≡ check_indexed s root b i
+      own_accepted h {y} z = let t : is_long b ≡ false = le-ltb longest (length b) short in rw (own_is, t, ← er, h) z
 
 -- A tree that was accepted with its index.
 pub record OwnedBy (s : List ℕ) (root : ℕ) (b i : List ℕ) (l : Language) (t : Code) : Type 0 where
@@ -102,22 +102,22 @@ module _ (s : List ℕ) (root : ℕ) (b i : List ℕ) where
     tree_stays l (value t) h = refused_not {n = 0} {r = r} (sym h)
     tree_stays l (refused q) h = cc
 
-    language-stays : (m : Result Language) → checked (m >>= λ l. indexed_tree l root b i) ≡ Refused r
+    language_stays : (m : Result Language) → checked (m >>= λ l. indexed_tree l root b i) ≡ Refused r
         → (m >>= λ l. indexed_tree l root b i >>= f l) ≡ refused r
-    language-stays (value l) h = tree_stays l (indexed_tree l root b i) h
-    language-stays (refused q) h = cc
+    language_stays (value l) h = tree_stays l (indexed_tree l root b i) h
+    language_stays (refused q) h = cc
 
-    pub refused-own : check_indexed s root b i ≡ Refused r → (language_of s >>= λ l. indexed_tree l root b i >>= f l) ≡ refused r
+    pub refused_own : check_indexed s root b i ≡ Refused r → (language_of s >>= λ l. indexed_tree l root b i >>= f l) ≡ refused r
     unfolding check_indexed
-    refused-own h = language-stays (language_of s) h
+    refused_own h = language_stays (language_of s) h
 
   module _ (l : Language) (t : Code) (w : OwnedBy s root b i l t) where
-    pub owned-small : root < 32
-    owned-small = in_below s root l (language_facts s l w.is).0 (tree_right l root b t w.tree_is).0
+    pub owned_small : root < 32
+    owned_small = in_below s root l (language_facts s l w.is).0 (tree_right l root b t w.tree_is).0
 
-    pub owned-there : (places : List ℕ) → ((j : ℕ) → get_or b j 0 < 256) → ((k : Language) → entries_of s ≡ some k → Indexed places s k)
+    pub owned_there : (places : List ℕ) → ((j : ℕ) → get_or b j 0 < 256) → ((k : Language) → entries_of s ≡ some k → Indexed places s k)
         → There places s b 0 root l t
-    owned-there places bytes indexed =
+    owned_there places bytes indexed =
         let f = language_facts s l w.is in
         record {
           index_of = record { indexed = indexed l f.0; apart = f.1 };

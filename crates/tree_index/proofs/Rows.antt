@@ -8,7 +8,7 @@ use lib.Seq.{slice}
 use Rattle.format_fields.proofs.Lists.{part_done, part_next}
 use Rattle.format_language.specs.Language.{Language}
 use Rattle.tree_reader.specs.Code.{Code, Codes, nil, cons}
-use Rattle.tree_reader.specs.Typing.{TypedAll, typed-nil, typed-cons}
+use Rattle.tree_reader.specs.Typing.{TypedAll, typed_nil, typed_cons}
 use Rattle.tree_reader.specs.Inner.Index.{Ready}
 use Rattle.tree_reader.specs.Inner.Positions.{KindsIn}
 use Rattle.tree_reader.proofs.Members.{in_below}
@@ -38,10 +38,10 @@ pub record Turn (index s b : List ℕ) (to q last : ℕ) (l : Language) (ts : Co
   pub row : Row index s b (to + size head) (q + 1) last l tail
 
 cons_of : {l : Language} {ts : Codes} {k : ℕ} {ks : List ℕ} → TypedAll l [] ts (k ∷ ks) → (t : Code) × (us : Codes) × (ts ≡ cons t us)
-cons_of (typed-cons {a = a} {t = t} h hs) = (a, t, refl)
+cons_of (typed_cons {a = a} {t = t} h hs) = (a, t, refl)
 
 nil_of : {l : Language} {ts : Codes} → TypedAll l [] ts [] → ts ≡ nil
-nil_of typed-nil = refl
+nil_of typed_nil = refl
 
 module _ (index s b : List ℕ) (to q last : ℕ) (l : Language) (ts : Codes) (r : Row index s b to q last l ts) where
   pub turn : q < last → last ≤ length s → Turn index s b to q last l ts

@@ -12,7 +12,7 @@ use Rattle.format_fields.specs.Lists.{all}
 use Rattle.format_fields.proofs.Truth.{none_some}
 use Rattle.format_language.specs.Language.{Language, Range, arguments_of, production_key}
 use Rattle.tree_reader.specs.Code.{Code, node, token, Codes, nil, levels_all}
-use Rattle.tree_reader.specs.Typing.{kind_at, Typed, typed-node, typed-token, typed-argument, typed-nil}
+use Rattle.tree_reader.specs.Typing.{kind_at, Typed, typed_node, typed_token, typed_argument, typed_nil}
 use Rattle.tree_reader.specs.Syntax.{write, tree}
 use Rattle.tree_reader.specs.Inner.Index.{range_before, arguments_before}
 use Rattle.tree_reader.proofs.Larger.{apart}
@@ -53,9 +53,9 @@ pub record Named (s b : List ℕ) (at place : ℕ) : Type 0 where
 module _ (index s b : List ℕ) (at k : ℕ) (l : Language) (x : Index index s l) (kind : k < 32) where
   leaf_opens : (u : Code) → Typed l [] u k → Lies l b at k u → (get_or index k 0 ≡ 0 → ⊥) → Opens index s b at k l u 0 0 (at + 2)
   unfolding write levels_all all
-  leaf_opens u (typed-node {p = p} {ks = ks} e w) h c =
+  leaf_opens u (typed_node {p = p} {ks = ks} e w) h c =
       absurd (c (no_class s (get_or index k 0) (sym (x.indexed.range k kind) ∙ apart l x.apart k p ks e)))
-  leaf_opens u (typed-token {v = v} e w) h c = record {
+  leaf_opens u (typed_token {v = v} e w) h c = record {
     operands = nil;
     front = 2;
     shape = value;
@@ -66,42 +66,42 @@ module _ (index s b : List ℕ) (at k : ℕ) (l : Language) (x : Index index s l
         rest = h.rest;
         is = past_is b at (write tree (token v)) _ h.inside h.is;
         inside = past_inside b at (write tree (token v)) _ h.inside h.is;
-        typed = typed-nil;
+        typed = typed_nil;
         within = omega arith;
         known = refl;
       };
     };
     kinds = λ y i j. absurd (omega arith);
   }
-  leaf_opens u (typed-argument {i = i} {j = j} e) h c = no_argument i j e
+  leaf_opens u (typed_argument {i = i} {j = j} e) h c = no_argument i j e
 
   module _ (bytes : (i : ℕ) → get_or b i 0 < 256) (class : get_or index k 0 ≡ 0) where
     abbrev spot : ℕ
     spot = get_or index (production_key k (get_or b at 0)) 0
 
-    node-facts : (p : ℕ) (ts : Codes) (ks : List ℕ) → Lies l b at k (node k p ts) → arguments_of l k p ≡ some ks
+    node_facts : (p : ℕ) (ts : Codes) (ks : List ℕ) → Lies l b at k (node k p ts) → arguments_of l k p ≡ some ks
         → (p ≡ get_or b at 0) × (0 < spot) × (slice (spot + 4) (spot + 2 + pair_at s spot) s ≡ ks)
-    node-facts p ts ks h e =
+    node_facts p ts ks h e =
         let w = node_byte l b at k p ts h in
         let q : p ≡ get_or b at 0 = sym w.1 in
         let f : arguments_of l k (get_or b at 0) ≡ some ks = ap (arguments_of l k) w.1 ∙ e in
         let y = some_production s spot (sym (x.indexed.arguments k (get_or b at 0) kind (bytes at)) ∙ f) in
         (q, y.0, y.1)
 
-    node-named : (u : Code) → Typed l [] u k → Lies l b at k u → Named s b at spot
-    node-named u (typed-node {p = p} {t = ts} {ks = ks} e w) h =
-        let f = node-facts p ts ks h e in
+    node_named : (u : Code) → Typed l [] u k → Lies l b at k u → Named s b at spot
+    node_named u (typed_node {p = p} {t = ts} {ks = ks} e w) h =
+        let f = node_facts p ts ks h e in
         record {
           byte = (node_byte l b at k p ts h).0;
           there = x.indexed.sound.name k (get_or b at 0) kind (bytes at) f.1;
           short = x.indexed.sound.short;
         }
-    node-named u (typed-token e w) h = absurd (some_class s (get_or index k 0) (sym (x.indexed.range k kind) ∙ e) class)
-    node-named u (typed-argument {i = i} {j = j} e) h = no_argument i j e
+    node_named u (typed_token e w) h = absurd (some_class s (get_or index k 0) (sym (x.indexed.range k kind) ∙ e) class)
+    node_named u (typed_argument {i = i} {j = j} e) h = no_argument i j e
 
     node_opens : (u : Code) → Typed l [] u k → Lies l b at k u → Opens index s b at k l u (spot + 4) (spot + 2 + pair_at s spot) (at + 1)
-    node_opens u (typed-node {p = p} {t = ts} {ks = ks} e w) h =
-        let f = node-facts p ts ks h e in
+    node_opens u (typed_node {p = p} {t = ts} {ks = ks} e w) h =
+        let f = node_facts p ts ks h e in
         let sh : Shape l k (node k p ts) ts (slice (spot + 4) (spot + 2 + pair_at s spot) s) 1 = production (e ∙ ap some (sym f.2)) in
         record {
           operands = ts;
@@ -111,8 +111,8 @@ module _ (index s b : List ℕ) (at k : ℕ) (l : Language) (x : Index index s l
           row = record { index_of = x; lie = rw f.2 (node_lies l b at k p ts h ks e w) };
           kinds = x.indexed.sound.operands k (get_or b at 0) kind (bytes at) f.1;
         }
-    node_opens u (typed-token e w) h = absurd (some_class s (get_or index k 0) (sym (x.indexed.range k kind) ∙ e) class)
-    node_opens u (typed-argument {i = i} {j = j} e) h = no_argument i j e
+    node_opens u (typed_token e w) h = absurd (some_class s (get_or index k 0) (sym (x.indexed.range k kind) ∙ e) class)
+    node_opens u (typed_argument {i = i} {j = j} e) h = no_argument i j e
 
 -- operands_at
 module _ (index s b : List ℕ) (at k : ℕ) (l : Language) (t : Code) (h : There index s b at k l t) (j c : ℕ) (ej : j ≡ k) (ec : c ≡ get_or index j 0) where
@@ -126,15 +126,15 @@ module _ (index s b : List ℕ) (at k : ℕ) (l : Language) (t : Code) (h : Ther
   at_token n = leaf_opens index s b at k l h.index_of small t h.lies.typed h.lies (λ z. n (class_is ∙ z))
 
   module _ (bytes : (i : ℕ) → get_or b i 0 < 256) (none : c ≡ 0) where
-    pub name-there : at < length b
-    name-there = (node-named index s b at k l h.index_of small bytes (sym class_is ∙ none) t h.lies.typed h.lies).byte
+    pub name_there : at < length b
+    name_there = (node_named index s b at k l h.index_of small bytes (sym class_is ∙ none) t h.lies.typed h.lies).byte
 
     module _ (i m key place : ℕ) (ei : i ≡ k) (em : m ≡ get_or b at 0) (ek : key ≡ production_key i m) (ep : place ≡ get_or index key 0) where
       place_is : place ≡ get_or index (production_key k (get_or b at 0)) 0
       place_is = ep ∙ ap (λ (z : ℕ). get_or index z 0) (ek ∙ (ap (λ (z : ℕ). production_key z m) ei ∙ ap (production_key k) em))
 
       pub named : Named s b at place
-      named = rw place_is (node-named index s b at k l h.index_of small bytes (sym class_is ∙ none) t h.lies.typed h.lies)
+      named = rw place_is (node_named index s b at k l h.index_of small bytes (sym class_is ∙ none) t h.lies.typed h.lies)
 
-      pub at-node : (f e : ℕ) → f ≡ place + 4 → e ≡ place + 2 + pair_at s place → Opens index s b at k l t f e (at + 1)
-      at-node f e ef ee = rw (ef, ee, place_is) (node_opens index s b at k l h.index_of small bytes (sym class_is ∙ none) t h.lies.typed h.lies)
+      pub at_node : (f e : ℕ) → f ≡ place + 4 → e ≡ place + 2 + pair_at s place → Opens index s b at k l t f e (at + 1)
+      at_node f e ef ee = rw (ef, ee, place_is) (node_opens index s b at k l h.index_of small bytes (sym class_is ∙ none) t h.lies.typed h.lies)

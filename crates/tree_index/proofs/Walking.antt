@@ -153,8 +153,8 @@ module _ (x s b : List ℕ) (to q last : ℕ) (l : Language) (ts : Codes) (v : T
   turn_levels = let e : levels_all ts ≡ levels_all (cons v.head v.tail) = ap levels_all v.is in (omega arith, omega arith)
 
   module _ (k f e t : ℕ) (p : Opens x s b to k l v.head f e t) where
-    pub turn-flat : levels_all p.operands ≤ levels_all ts
-    turn-flat = omega (arith, (shape_levels p.shape).0, turn_levels.0)
+    pub turn_flat : levels_all p.operands ≤ levels_all ts
+    turn_flat = omega (arith, (shape_levels p.shape).0, turn_levels.0)
 
     pub turn_below : f < e → levels_all p.operands < levels_all ts
     turn_below h =
@@ -163,15 +163,15 @@ module _ (x s b : List ℕ) (to q last : ℕ) (l : Language) (ts : Codes) (v : T
         let n : 0 < length (slice f e s) = rw g (omega arith) in
         omega (arith, (shape_levels p.shape).1 n, turn_levels.0)
 
-    pub turn-ahead : (to < t) × (t ≤ length b)
-    turn-ahead = let y = shape_front p.shape in (omega (arith, p.past), p.row.lie.inside)
+    pub turn_ahead : (to < t) × (t ≤ length b)
+    turn_ahead = let y = shape_front p.shape in (omega (arith, p.past), p.row.lie.inside)
 
     pub turn_end : to + size v.head ≡ t + length (write_all tree p.operands)
     turn_end = let y = shape_size p.shape in omega (arith, p.past)
 
     module _ (base a c d : ℕ) (ea : a ≡ base + to) (ec : c ≡ base + t) (ed : d ≡ base + (to + size v.head)) where
-      pub turn-are : entries (spans_all a ts) ≡ entry (span a (size v.head)) ++ (entries (spans_all c p.operands) ++ entries (spans_all d v.tail))
-      turn-are =
+      pub turn_are : entries (spans_all a ts) ≡ entry (span a (size v.head)) ++ (entries (spans_all c p.operands) ++ entries (spans_all d v.tail))
+      turn_are =
           let y : a + p.front ≡ c = omega (arith, p.past) in
           let z : a + size v.head ≡ d = omega arith in
           turn_spans a
@@ -207,23 +207,23 @@ module _ (x s b : List ℕ) (base : ℕ) (o : List ℕ) (n at : ℕ) (ts : Codes
       pub walk_turn : Turn x s b to q last l w.others
       walk_turn = turn x s b to q last l w.others w.row here (kinds_end s q last q w.kinds (omega arith) here)
 
-      pub walk-kind : q < length s
-      walk-kind = (w.kinds q (omega arith) here).0
+      pub walk_kind : q < length s
+      walk_kind = (w.kinds q (omega arith) here).0
 
       module _ (f e t : ℕ) (p : Opens x s b to (get_or s q 0) l walk_turn.head f e t) where
         abbrev inner : List ℕ
         inner = entries (spans_all (base + t) p.operands)
 
         -- The operands have fewer levels than all trees.
-        pub walk-below : f < e → levels_all p.operands < levels_all ts
-        walk-below h = omega (arith, turn_below x s b to q last l w.others walk_turn (get_or s q 0) f e t p h, w.flat)
+        pub walk_below : f < e → levels_all p.operands < levels_all ts
+        walk_below h = omega (arith, turn_below x s b to q last l w.others walk_turn (get_or s q 0) f e t p h, w.flat)
 
         -- What is known of the numbers.
-        pub walk-ahead : (to < t) × (t ≤ length b)
-        walk-ahead = turn-ahead x s b to q last l w.others walk_turn (get_or s q 0) f e t p
+        pub walk_ahead : (to < t) × (t ≤ length b)
+        walk_ahead = turn_ahead x s b to q last l w.others walk_turn (get_or s q 0) f e t p
 
-        pub walk-few : m + 4 + 4 * (length b - t) ≤ last_place
-        walk-few = omega (arith, w.few, walk-ahead.0, walk-ahead.1)
+        pub walk_few : m + 4 + 4 * (length b - t) ≤ last_place
+        walk_few = omega (arith, w.few, walk_ahead.0, walk_ahead.1)
 
         -- The operands end in the bytes.
         pub walk_inside : t + length (write_all tree p.operands) ≤ length b
@@ -240,7 +240,7 @@ module _ (x s b : List ℕ) (base : ℕ) (o : List ℕ) (n at : ℕ) (ts : Codes
               let own = puts_entry o₁ o₂ m a z (base + to) (size walk_turn.head) ep ea (omega arith) in
               let both = puts_before (entry (span (base + to) (size walk_turn.head))) inner o' o₁ o₂ m (m + 4) k pi own same in
               let v = entry (span (base + to) (size walk_turn.head)) ++ inner in
-              let are = turn-are x s b to q last l w.others walk_turn (get_or s q 0) f e t p base (base + to) (base + t) (base + end) refl refl (omega arith) in
+              let are = turn_are x s b to q last l w.others walk_turn (get_or s q 0) f e t p base (base + to) (base + t) (base + end) refl refl (omega arith) in
               let behind = entries (spans_all (base + end) walk_turn.tail) in
               let len = turn_long x s b to q last l w.others walk_turn in
               let small = entries_few_all p.operands (base + t) in
@@ -254,16 +254,16 @@ module _ (x s b : List ℕ) (base : ℕ) (o : List ℕ) (n at : ℕ) (ts : Codes
                     ∙ (ap (λ (g : List ℕ). w.dealt ++ g) (are ∙ sym (append_assoc (entry (span (base + to) (size walk_turn.head))) inner behind))
                     ∙ sym (append_assoc w.dealt v behind));
                 ends = omega (arith, w.ends);
-                few = omega (arith, w.few, pi.end, walk-ahead.0, walk-ahead.1, walk_inside);
+                few = omega (arith, w.few, pi.end, walk_ahead.0, walk_ahead.1, walk_inside);
                 flat = omega (arith, w.flat, (turn_levels x s b to q last l w.others walk_turn).1);
               }
 
         -- A node that has no operands.
         module _ (none : e ≤ f) where
-          none-inner : (inner ≡ []) × (length (write_all tree p.operands) ≡ 0)
-          none-inner = no_trees (base + t) p.operands (none_left x s b t f e l p.operands p.row none)
+          none_inner : (inner ≡ []) × (length (write_all tree p.operands) ≡ 0)
+          none_inner = no_trees (base + t) p.operands (none_left x s b t f e l p.operands p.row none)
 
           pub leaf_next : (o₂ : List ℕ) (a z : ℕ) → a ≡ base + to → z ≡ t - to → (m + 4 ≤ length o' → o₂ ≡ spliced o' m (entry (span a z)))
               → length o' ≡ length o → Walking x s b base o o₂ n at ts (q + 1) last t (m + 4) l
           leaf_next o₂ a z ea ez ep long =
-              walk_next o' o₂ (m + 4) t a z (rw none-inner.0 (puts_nothing o' (m + 4))) (omega (arith, none-inner.1)) ea ez ep long refl
+              walk_next o' o₂ (m + 4) t a z (rw none_inner.0 (puts_nothing o' (m + 4))) (omega (arith, none_inner.1)) ea ez ep long refl

@@ -20,7 +20,7 @@ use Rattle.tree_reader.specs.Inner.Positions.{rest, rest_at, rest_of, EndsBy}
 use Rattle.tree_reader.specs.Inner.Positions as Left
 use Rattle.tree_reader.proofs.Meaning.{done_of, deep_of, broken_of}
 use Rattle.check_operations.specs.Inner.Opening.{rooted_of}
-use Rattle.check_operations.proofs.Opening.{opened-not, rooted_steps, rooted_tree}
+use Rattle.check_operations.proofs.Opening.{opened_not, rooted_steps, rooted_tree}
 use Rattle.check_operations.proofs.TreeChain.{tree_refused}
 use Rattle.tree_locate.specs.Faults.{Stop, passes, ends, unfit, deep, stop}
 use Rattle.tree_locate.specs.Operations.{position_of, stop_position, stop_of, told_position, locate_tree}
@@ -125,7 +125,7 @@ module _ (s : List ℕ) (root : ℕ) (b : List ℕ) where
       → (r.outcome ≡ (locate_tree s root b).outcome) × (r.position ≡ (locate_tree s root b).position)
   unfolding locate_tree
   located-refused r eo h i j =
-      (tree_refused s root b eo h i, j ∙ sym (told-by ∙ ap (λ (m : Result Language). told_position (m >>= λ l. value (stop_position b (stop l tree_levels root b)))) (opened-not s root eo h)))
+      (tree_refused s root b eo h i, j ∙ sym (told-by ∙ ap (λ (m : Result Language). told_position (m >>= λ l. value (stop_position b (stop l tree_levels root b)))) (opened_not s root eo h)))
 
   pub located-read : (l : Language) → rooted_of s root ≡ value l → (r : Located)
       → Answers b (Meant.read Meant.tree l [] tree_levels root b) (stop l tree_levels root b) r

@@ -124,21 +124,21 @@ module _ (language : List ℕ) (root : ℕ) (l : Language) (is : language_of lan
     abbrev Reason : Stop → Type 0
     Reason o = Because language l root s (outcome_of o) (stop_position s o)
 
-    tree-reason : (a r : List ℕ) → s ≡ a ++ r → ((v : List ℕ) → stops (a ++ v) ≡ passes v) → Reason (passes r)
-    tree-reason a [] e d =
+    tree_reason : (a r : List ℕ) → s ≡ a ++ r → ((v : List ℕ) → stops (a ++ v) ≡ passes v) → Reason (passes r)
+    tree_reason a [] e d =
         let z : a ≡ s = sym (append-nil a) ∙ sym e in
         let w = legal a (ap stops (sym (append-nil a)) ∙ d []) in
         whole (ap (tree_of l root) (sym z) ∙ w.1)
-    tree-reason a (b ∷ r) e d =
+    tree_reason a (b ∷ r) e d =
         let w = legal a (ap stops (sym (append-nil a)) ∙ d []) in
         let n : length s ≡ length a + length (b ∷ r) = ap length e ∙ length-append a (b ∷ r) in
         let p : position_of s (b ∷ r) ≡ length a = behind_front s a (b ∷ r) e in
         let i : length a < length s = omega arith in
         rw p (leftover i (ap (tree_of l root) (ap (take (length a)) e ∙ take_at a (b ∷ r) (length a) refl) ∙ w.1))
 
-    node-reason : (a w r u : List ℕ) → (length w ≡ 1) ⊎ (length w ≡ 2) → u ≡ w ++ r → s ≡ a ++ (w ++ r) → ((v : List ℕ) → stops (a ++ (w ++ v)) ≡ unfit (w ++ v))
+    node_reason : (a w r u : List ℕ) → (length w ≡ 1) ⊎ (length w ≡ 2) → u ≡ w ++ r → s ≡ a ++ (w ++ r) → ((v : List ℕ) → stops (a ++ (w ++ v)) ≡ unfit (w ++ v))
         → Cut stops (a ++ w) → Reason (unfit u)
-    node-reason a w r u n i e d c =
+    node_reason a w r u n i e d c =
         let p : position_of s u ≡ length a = ap (position_of s) i ∙ behind_front s a (w ++ r) e in
         let f : s ≡ (a ++ w) ++ r = e ∙ sym (append_assoc a w r) in
         let m : length (a ++ w) ≡ length a + length w = length-append a w in
@@ -155,24 +155,24 @@ module _ (language : List ℕ) (root : ℕ) (l : Language) (is : language_of lan
             let i : length a + 1 < length s = omega arith in
             out_of_range i (decided (a ++ w) r s f c h (length a + 2) (omega arith))
 
-    level-reason : (a r : List ℕ) → s ≡ a ++ r → ((v : List ℕ) → stops (a ++ v) ≡ deep v) → Cut stops a → Reason (deep r)
-    level-reason a r e d c =
+    level_reason : (a r : List ℕ) → s ≡ a ++ r → ((v : List ℕ) → stops (a ++ v) ≡ deep v) → Cut stops a → Reason (deep r)
+    level_reason a r e d c =
         let p : position_of s r ≡ length a = behind_front s a r e in
         let n : length s ≡ length a + length r = ap length e ∙ length-append a r in
         let i : length a ≤ length s = omega arith in
         rw p (too_deep_lem i (decided a r s e c (λ v q. deep_not (stops (a ++ v)) v (d v) q) (length a) refl))
 
-    end-reason : ((g h : List ℕ) → s ≡ g ++ h → stops g ≡ ends) → Reason ends
-    end-reason d = ended (λ q w e.
+    end_reason : ((g h : List ℕ) → s ≡ g ++ h → stops g ≡ ends) → Reason ends
+    end_reason d = ended (λ q w e.
         ends_not (stops (take q s)) (d (take q s) (drop q s) (sym (take-append-drop q s)))
         (ap stops (sym (append-nil (take q s)) ∙ ap (λ (u : List ℕ). take q s ++ u) (sym e)) ∙ passes_legal (take q s) w)) (λ q h.
         cut_told (take q s) (d (take q s) (drop q s) (sym (take-append-drop q s))) ∙ ap cut_at (length-take-le q s h))
 
     reason : (o : Stop) → Local stops s o → Reason o
-    reason o (by_tree a {r = r} e d c) = tree-reason a r e d
-    reason o (by_node a w r {u = u} n i e d c) = node-reason a w r u n i e d c
-    reason o (by_level a {r = r} e d c) = level-reason a r e d c
-    reason o (by_end d) = end-reason d
+    reason o (by_tree a {r = r} e d c) = tree_reason a r e d
+    reason o (by_node a w r {u = u} n i e d c) = node_reason a w r u n i e d c
+    reason o (by_level a {r = r} e d c) = level_reason a r e d c
+    reason o (by_end d) = end_reason d
 
     because : Because language l root s (locate_tree language root s).outcome (locate_tree language root s).position
     because = rw (located_is s) (reason (stops s) (stop_local l tree_levels root s))

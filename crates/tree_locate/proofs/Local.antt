@@ -85,8 +85,8 @@ module _ (f next : List ℕ → Stop) where
     further : (b v : List ℕ) → both ((a ++ b) ++ v) ≡ next (b ++ v)
     further b v = ap both (append_assoc a b v) ∙ goes_on (b ++ v)
 
-    both-cut : {b : List ℕ} → Cut next b → Cut both (a ++ b)
-    both-cut {b} d g x h e =
+    both_cut : {b : List ℕ} → Cut next b → Cut both (a ++ b)
+    both_cut {b} d g x h e =
         ⊎_elim
         (λ z. still g (c g z.0 z.1 z.2))
         (λ z. ap both z.1 ∙ (goes_on z.0 ∙ d z.0 x h z.2))
@@ -101,13 +101,13 @@ module _ (f next : List ℕ → Stop) where
 
     behind : {s r : List ℕ} {o : Stop} → s ≡ a ++ r → Local next r o → Local both s o
     behind e (by_tree b {r = q} i d k) =
-        by_tree (a ++ b) (e ∙ (ap (λ (u : List ℕ). a ++ u) i ∙ sym (append_assoc a b q))) (λ v. further b v ∙ d v) (both-cut k)
+        by_tree (a ++ b) (e ∙ (ap (λ (u : List ℕ). a ++ u) i ∙ sym (append_assoc a b q))) (λ v. further b v ∙ d v) (both_cut k)
     behind e (by_node b w q n j i d k) =
         by_node (a ++ b) w q n j
         (e ∙ (ap (λ (u : List ℕ). a ++ u) i ∙ sym (append_assoc a b (w ++ q)))) (λ v. further b (w ++ v) ∙ d v)
-        (rw append_assoc (both-cut k))
+        (rw append_assoc (both_cut k))
     behind e (by_level b {r = q} i d k) =
-        by_level (a ++ b) (e ∙ (ap (λ (u : List ℕ). a ++ u) i ∙ sym (append_assoc a b q))) (λ v. further b v ∙ d v) (both-cut k)
+        by_level (a ++ b) (e ∙ (ap (λ (u : List ℕ). a ++ u) i ∙ sym (append_assoc a b q))) (λ v. further b v ∙ d v) (both_cut k)
     behind {s} e (by_end d) = by_end (λ g h i. both_end d g h (sym e ∙ i))
 
   then_local : {s : List ℕ} {o : Stop} → Local f s o → ((r : List ℕ) → Local next r (next r)) → Local both s (onward o next)

@@ -20,8 +20,8 @@ use Rattle.tree_reader.specs.Inner.Positions.{token_at, production_place, KindsI
 use Rattle.tree_reader.specs.declared.node.Syntax.TheVariants.{Tree}
 use Rattle.tree_reader.specs.declared.node.Read.{Read}
 use Rattle.tree_reader.specs.declared.node.Read.TheVariants.{End, Deep, Broken}
-use Rattle.tree_reader.proofs.Laws.{kinds-from}
-use Rattle.check_operations.proofs.Reading.{two, class_known, class_none, production-none, found_name, at-known}
+use Rattle.tree_reader.proofs.Laws.{kinds_from}
+use Rattle.check_operations.proofs.Reading.{two, class_known, class_none, production_none, found_name, at_known}
 use Rattle.tree_locate.specs.Faults.{Stop, passes, ends, unfit, deep, onward, stop_all, stop_operands, stop_node, stop_token, stop}
 use Rattle.tree_locate.specs.Operations.{position_of}
 use Rattle.tree_locate.specs.Inner.Places.{past, stopped, place_of, place_at, WalkIn}
@@ -67,8 +67,8 @@ module _ (s : List ℕ) (class : ℕ) (b : List ℕ) (at : ℕ) where
     in_end : in_range range (pair_at b at) ≡ true → stop_token range (drop at b) ≡ passes (drop (at + 2) b)
     in_end h = ap (stop_token range) (two b at there) ∙ token_in range _ _ (pair_at b at) (drop (at + 2) b) value h
 
-    out-stop : in_range range (pair_at b at) ≡ false → stop_token range (drop at b) ≡ unfit (drop at b)
-    out-stop h =
+    out_stop : in_range range (pair_at b at) ≡ false → stop_token range (drop at b) ≡ unfit (drop at b)
+    out_stop h =
         ap (stop_token range) (two b at there)
         ∙ (token_out range _ _ (pair_at b at) (drop (at + 2) b) value h ∙ ap unfit (sym (two b at there)))
 
@@ -82,13 +82,13 @@ module _ (s : List ℕ) (class : ℕ) (b : List ℕ) (at : ℕ) where
         (ap (λ (j : ℕ). past (drop j b)) z ∙ sym (ap (place_of b) (in_end t)), omega arith))
         (λ t. let z : ◌≡◌ {A = ℕ} 0 1 = cc token_read in absurd (omega arith))
 
-    pub token-stopped : {r : Read} → r ≡ token_at s class b at → ((e : ℕ) → r ≡ End e → ⊥)
+    pub token_stopped : {r : Read} → r ≡ token_at s class b at → ((e : ℕ) → r ≡ End e → ⊥)
         → place_at b (Stopped at) ≡ place_of b (stop_token range (drop at b))
     unfolding place_at place_of
-    token-stopped {r} er h =
+    token_stopped {r} er h =
         by_test (in_range range (pair_at b at))
         (λ t. absurd (h (at + 2) (cc token_read)))
-        (λ t. sym (ap (place_of b) (out-stop t) ∙ ap stopped (position_is b at inside)))
+        (λ t. sym (ap (place_of b) (out_stop t) ∙ ap stopped (position_is b at inside)))
 
 pub deep_end : {r : Read} (e : ℕ) → r ≡ Deep → r ≡ End e → ⊥
 deep_end e h i = let z : ◌≡◌ {A = ℕ} 0 1 = cc in omega arith
@@ -139,39 +139,39 @@ module _ (s index : List ℕ) (l : Language) (z : Indexed index s l) (k : ℕ) (
       place_is : place ≡ production_place Tree index k b at
       place_is = cc (eq-eqb class 0 no)
 
-      node-ends : length b ≤ at → stop_node (stop l (n - 1)) l k (drop at b) ≡ ends
+      node_ends : length b ≤ at → stop_node (stop l (n - 1)) l k (drop at b) ≡ ends
       unfolding stop_node
-      node-ends h = rw (drop_of_length-le b {i = at} h)
+      node_ends h = rw (drop_of_length-le b {i = at} h)
 
-      node-unknown : at < length b → place ≡ 0 → stop_node (stop l (n - 1)) l k (drop at b) ≡ unfit (drop at b)
+      node_unknown : at < length b → place ≡ 0 → stop_node (stop l (n - 1)) l k (drop at b) ≡ unfit (drop at b)
       unfolding stop_node stop_operands production_place
-      node-unknown i p =
+      node_unknown i p =
           let y : place ≡ get_or index (production_key k (get_or b at 0)) 0 = place_is ∙ rw (below at i) in
-          let w = production-none s index l z k kind (get_or b at 0) (bytes at) place y p in
+          let w = production_none s index l z k kind (get_or b at 0) (bytes at) place y p in
           rw (front b at i) (rw w)
         where
           below : (q : ℕ) → q < length b → leb (length b) q ≡ false
           below q h = by_test (leb (length b) q) (λ t. let i = leb-true (length b) q t in absurd (omega arith)) (λ t. t)
 
-      pub tree-unknown : (n ≡ 0 → ⊥) → place ≡ 0 → place_at b (Stopped at) ≡ place_of b (stop l n k (drop at b))
+      pub tree_unknown : (n ≡ 0 → ⊥) → place ≡ 0 → place_at b (Stopped at) ≡ place_of b (stop l n k (drop at b))
       unfolding place_at place_of
-      tree-unknown h p =
+      tree_unknown h p =
           by_test (leb (length b) at)
           (λ t.
           let i = leb-true (length b) at t in
           let e : at ≡ length b = omega arith in
-          ap stopped e ∙ sym (ap (place_of b) (level h ∙ node-ends i)))
+          ap stopped e ∙ sym (ap (place_of b) (level h ∙ node_ends i)))
           (λ t.
           let i = leb-false (length b) at t in
-          sym (ap (place_of b) (level h ∙ node-unknown i p) ∙ ap stopped (position_is b at inside)))
+          sym (ap (place_of b) (level h ∙ node_unknown i p) ∙ ap stopped (position_is b at inside)))
 
-      pub tree-row : (n ≡ 0 → ⊥) → (place ≡ 0 → ⊥) → {first last : ℕ} → first ≡ place + 4 → last ≡ place + 2 + pair_at s place → (w : Walk)
+      pub tree_row : (n ≡ 0 → ⊥) → (place ≡ 0 → ⊥) → {first last : ℕ} → first ≡ place + 4 → last ≡ place + 2 + pair_at s place → (w : Walk)
           → place_at b w ≡ place_of b (stop_all (stop l (n - 1)) (slice first last s) (drop (at + 1) b))
           → place_at b w ≡ place_of b (stop l n k (drop at b))
       unfolding stop_node stop_operands place_at place_of
-      tree-row h pos {first} {last} ef el w e =
+      tree_row h pos {first} {last} ef el w e =
           let i : at < length b = (found_name s index b k at kind bytes ej ec ep pos).0 in
-          let y = at-known s index b k at kind bytes ej ec ep pos refl l z in
+          let y = at_known s index b k at kind bytes ej ec ep pos refl l z in
           let q : stop_node (stop l (n - 1)) l k (drop at b) ≡ stop_all (stop l (n - 1)) (slice (place + 4) (place + 2 + pair_at s place) s) (drop (at + 1) b) =
           ap (stop_node (stop l (n - 1)) l k) (front b at i) ∙ ap (λ (o : Option (List ℕ)). stop_operands (stop l (n - 1)) o (get_or b at 0) (drop (at + 1) b)) y in
           let same : stop_all (stop l (n - 1)) (slice (place + 4) (place + 2 + pair_at s place) s) (drop (at + 1) b) ≡ stop_all (stop l (n - 1)) (slice first last s) (drop (at + 1) b) = rw (ef, el) in
@@ -209,10 +209,10 @@ module _ (l : Language) (n : ℕ) (s b : List ℕ) (last q to : ℕ) where
         let p = past_of b (stop l n (get_or s q 0) (drop to b)) (drop e b) g in
         rw one_more (rw p refl)
 
-    pub row-stopped : {w : Walk} {p : ℕ} → w ≡ Stopped p → place_at b w ≡ place_of b (stop l n (get_or s q 0) (drop to b))
+    pub row_stopped : {w : Walk} {p : ℕ} → w ≡ Stopped p → place_at b w ≡ place_of b (stop l n (get_or s q 0) (drop to b))
         → place_at b w ≡ place_of b (stop_all (stop l n) (slice q last s) (drop to b))
     unfolding stop_all place_at place_of
-    row-stopped {w} {p} ew h =
+    row_stopped {w} {p} ew h =
         let g : stopped p ≡ place_of b (stop l n (get_or s q 0) (drop to b)) = sym (ap (place_at b) ew) ∙ h in
         ap (place_at b) ew ∙ rw one_more (stays b (stop l n (get_or s q 0) (drop to b)) (stop_all (stop l n) (slice (q + 1) last s)) p g)
 
@@ -229,4 +229,4 @@ pub tree_kinds : (s index b : List ℕ) (k at : ℕ) → k < 32 → ((i : ℕ) �
     → place ≡ cond (eqb class 0) (production_place Tree index k b at) 0 → (place ≡ 0 → ⊥) → Sound index s → {first last : ℕ} → first ≡ place + 4 → last ≡ place + 2 + pair_at s place
     → KindsIn s first last
 tree_kinds s index b k at kind bytes ej ec ep pos z ef el =
-    kinds-from index s z refl kind (bytes at) (found_name s index b k at kind bytes ej ec ep pos).1 pos ef el
+    kinds_from index s z refl kind (bytes at) (found_name s index b k at kind bytes ej ec ep pos).1 pos ef el

@@ -28,7 +28,7 @@ use Rattle.format_card.specs.Card.{Card, card_of, together}
 use Rattle.format_card.specs.Inner.Sets.{Holds, lowest_of}
 use Rattle.format_card.proofs.Refusals.{same_refusal, lowest_accepted, accepted_card, together_refused}
 use Rattle.check_operations.specs.Inner.Opening.{root_in, rooted_of, Opened}
-use Rattle.check_operations.proofs.Opening.{opened-language, tree_then}
+use Rattle.check_operations.proofs.Opening.{opened_language, tree_then}
 use Rattle.check_operations.proofs.Legal.{tree_of_lem}
 use Rattle.check_operations.proofs.Answering.{gives_refused, gives_same, gives_long, gives_fit}
 use Rattle.tree_mask.specs.Mask.{masked}
@@ -61,8 +61,8 @@ module _ (s index : List ℕ) (kinds k : ℕ) (b o : List ℕ) {out : Outcome} w
 
 -- mask_read
 module _ (s index : List ℕ) (kinds k : ℕ) (b o : List ℕ) (f : At.Read) (is : (l : Language) → Indexed index s l → rest_at b f ≡ rest_of (read tree l [] tree_levels k b)) where
-  pub read-deep : {out : Outcome} → f ≡ Deep → out ≡ Refused Why.TooDeep → GivesTree s index kinds k b o o out
-  read-deep h i l card z c = gives_refused _ o Why.TooDeep (ap (result l card k (length o)) (deep_of (read tree l [] tree_levels k b) (sym (is l z) ∙ ap (rest_at b) h))) i
+  pub read_deep : {out : Outcome} → f ≡ Deep → out ≡ Refused Why.TooDeep → GivesTree s index kinds k b o o out
+  read_deep h i l card z c = gives_refused _ o Why.TooDeep (ap (result l card k (length o)) (deep_of (read tree l [] tree_levels k b) (sym (is l z) ∙ ap (rest_at b) h))) i
 
   pub read-broken : {out : Outcome} → f ≡ Broken → out ≡ Refused Why.IllegalTree → GivesTree s index kinds k b o o out
   read-broken h i l card z c = gives_refused _ o Why.IllegalTree (ap (result l card k (length o)) (broken_of (read tree l [] tree_levels k b) (sym (is l z) ∙ ap (rest_at b) h))) i
@@ -109,7 +109,7 @@ module _ (s : List ℕ) (root : ℕ) (c : List ℕ) {on-language on-card low : O
   legal {n} h =
       let w = lowest_accepted on-language on-card n (sym elow ∙ h) in
       let v = accepted_card (card_of c) w.1 (sym ec ∙ w.2) in
-      let o = opened-language s root el w.0 in
+      let o = opened_language s root el w.0 in
       record { language = o.0; is = o.1; card = v.0; card_is = v.1 }
 
   module _ (b o : List ℕ) {out : Outcome} where

@@ -3,7 +3,7 @@ use mathlib.Core.Path.{◌≡◌, refl}
 use mathlib.Core.List.{[], ◌∷◌}
 use Rattle.format_fields.specs.Lists.{all, any, first}
 use Rattle.format_fields.specs.Fields.{pair_at, fields_of, split_fields}
-use Rattle.format_fields.specs.Keyed.{rising, risingFrom}
+use Rattle.format_fields.specs.Keyed.{rising, rising_from}
 use Rattle.outcome.specs.Outcome.{value, refused}
 use Rattle.outcome.specs.declared.Reason.TheVariants.{BrokenField, OutOfOrder}
 use Rattle.format_language.specs.Language.{Language, range, class, production, arguments_at, arguments_of}
@@ -35,25 +35,25 @@ all_shown = refl
 
 -- 27 00 02 01 02 is a card, and so is 27 00 00; nothing at all, a kind above 31 and a byte too many are 2, 02 01 is 3.
 pub card_example : card_of (0x27 ∷ 0 ∷ 2 ∷ 1 ∷ 2 ∷ []) ≡ value (1 ∷ 2 ∷ [])
-unfolding card_of card_in fields_of split_fields pair_at rising risingFrom all
+unfolding card_of card_in fields_of split_fields pair_at rising rising_from all
 card_example = refl
 
 pub empty_card : card_of (0x27 ∷ 0 ∷ 0 ∷ []) ≡ value []
-unfolding card_of card_in fields_of split_fields pair_at rising risingFrom all
+unfolding card_of card_in fields_of split_fields pair_at rising rising_from all
 empty_card = refl
 
 pub no_card : card_of [] ≡ refused BrokenField
-unfolding card_of card_in fields_of split_fields pair_at rising risingFrom all
+unfolding card_of card_in fields_of split_fields pair_at rising rising_from all
 no_card = refl
 
 pub no_kind : card_of (0x27 ∷ 0 ∷ 2 ∷ 32 ∷ 1 ∷ []) ≡ refused BrokenField
-unfolding card_of card_in fields_of split_fields pair_at rising risingFrom all
+unfolding card_of card_in fields_of split_fields pair_at rising rising_from all
 no_kind = refl
 
 pub left_over : card_of (0x27 ∷ 0 ∷ 1 ∷ 1 ∷ 0 ∷ []) ≡ refused BrokenField
-unfolding card_of card_in fields_of split_fields pair_at rising risingFrom all
+unfolding card_of card_in fields_of split_fields pair_at rising rising_from all
 left_over = refl
 
 pub out_of_order : card_of (0x27 ∷ 0 ∷ 2 ∷ 2 ∷ 1 ∷ []) ≡ refused OutOfOrder
-unfolding card_of card_in fields_of split_fields pair_at rising risingFrom all
+unfolding card_of card_in fields_of split_fields pair_at rising rising_from all
 out_of_order = refl

@@ -13,7 +13,7 @@ use Rattle.format_fields.proofs.Truth.{by_test, none_some, some_inj}
 use Rattle.format_language.specs.Language.{Language, Range, arguments_of, range_of}
 use Rattle.format_language.proofs.Codec.{language_good}
 use Rattle.tree_reader.specs.Code.{Code, node, token, Codes, nil, cons}
-use Rattle.tree_reader.specs.Typing.{kind_at, Typed, TypedAll, typed-node, typed-token, typed-argument, typed-nil, typed-cons}
+use Rattle.tree_reader.specs.Typing.{kind_at, Typed, TypedAll, typed_node, typed_token, typed_argument, typed_nil, typed_cons}
 use Rattle.tree_reader.specs.Syntax.{write, write_all, tree}
 use Rattle.tree_reader.proofs.Larger.{apart}
 use Rattle.format_translation.specs.Operations.{fitted}
@@ -21,7 +21,7 @@ use Rattle.check_operations.proofs.Legal.{tree_right}
 use Rattle.format_card.specs.Card.{Card, sees}
 use Rattle.tree_mask.specs.Mask.{hidden_block, masked, masked_all}
 use Rattle.tree_mask.specs.Operations.{mask_bytes, mask_tree}
-use Rattle.tree_mask.specs.Agreement.{Agree, both-hidden, same-token, same_production, AgreeAll, agree-nil, agree-cons, Visible, itself, below, VisibleAmong, in-first, in-later, Open, open-token, open-production, OpenAll, open-nil, open-cons}
+use Rattle.tree_mask.specs.Agreement.{Agree, both_hidden, same_token, same_production, AgreeAll, agree_nil, agree_cons, Visible, itself, below, VisibleAmong, in_first, in_later, Open, open_token, open_production, OpenAll, open_nil, open_cons}
 use Rattle.tree_mask.specs.Laws.{Alike, HiddenStaysHidden, StandsIn, VisibleIsShown, MaskTellsTheRest}
 use Rattle.tree_mask.proofs.Masks.{masked_hidden, masked_token, masked_node, all_cons, all_nil}
 
@@ -36,13 +36,13 @@ module _ (l : Language) (c : Card) where
 
   mutual
     alike : {k : ℕ} {a b : Code} → Agree l c k a b → masked l c k a ≡ masked l c k b
-    alike (both-hidden {k = k} {a = a} {b = b} h) = masked_hidden l c k a h ∙ sym (masked_hidden l c k b h)
-    alike same-token = refl
+    alike (both_hidden {k = k} {a = a} {b = b} h) = masked_hidden l c k a h ∙ sym (masked_hidden l c k b h)
+    alike same_token = refl
     alike (same_production {k = k} {p = p} {ks = ks} {s = s} {t = t} e h) = production_alike k p ks s t e (all_alike h)
 
     all_alike : {ks : List ℕ} {s t : Codes} → AgreeAll l c ks s t → masked_all l c ks s ≡ masked_all l c ks t
-    all_alike agree-nil = refl
-    all_alike (agree-cons {k = k} {ks = ks} {a = a} {b = b} {s = s} {t = t} h i) =
+    all_alike agree_nil = refl
+    all_alike (agree_cons {k = k} {ks = ks} {a = a} {b = b} {s = s} {t = t} h i) =
         all_cons l c k ks a s
         ∙ (ap (λ (u : List ℕ). u ++ masked_all l c ks s) (alike h) ∙ (ap (λ (u : List ℕ). masked l c k b ++ u) (all_alike i) ∙ sym (all_cons l c k ks b t)))
 
@@ -79,11 +79,11 @@ module _ (l : Language) (c : Card) (j : ℕ) (b : Code) where
     shown (itself {k = k} {a = a} h e f) =
         let z : masked l c k a ≡ masked l c j b = ap (λ (i : ℕ). masked l c i a) e ∙ ap (masked l c j) f in
         rw z (in_itself (masked l c j b))
-    shown (below {k = k} {p = p} {ks = ks} {t = t} h e w) = rw (masked_node l c k p ks t h e) (behind (p ∷ []) (shown-among w))
+    shown (below {k = k} {p = p} {ks = ks} {t = t} h e w) = rw (masked_node l c k p ks t h e) (behind (p ∷ []) (shown_among w))
 
-    shown-among : {ks : List ℕ} {t : Codes} → VisibleAmong l c j b ks t → StandsIn (masked l c j b) (masked_all l c ks t)
-    shown-among (in-first {k = k} {ks = ks} {a = a} {t = t} w) = rw (all_cons l c k ks a t) (before_more (masked_all l c ks t) (shown w))
-    shown-among (in-later {k = k} {ks = ks} {a = a} {t = t} w) = rw (all_cons l c k ks a t) (behind (masked l c k a) (shown-among w))
+    shown_among : {ks : List ℕ} {t : Codes} → VisibleAmong l c j b ks t → StandsIn (masked l c j b) (masked_all l c ks t)
+    shown_among (in_first {k = k} {ks = ks} {a = a} {t = t} w) = rw (all_cons l c k ks a t) (before_more (masked_all l c ks t) (shown w))
+    shown_among (in_later {k = k} {ks = ks} {a = a} {t = t} w) = rw (all_cons l c k ks a t) (behind (masked l c k a) (shown_among w))
 
 -- Where nothing is hidden the masked bytes are the block's own.
 module _ (l : Language) (c : Card) where
@@ -91,13 +91,13 @@ module _ (l : Language) (c : Card) where
     unfolding write write_all
 
     own : {k : ℕ} {a : Code} → Open l c k a → masked l c k a ≡ write tree a
-    own (open-token {k = k} {v = v} h) = masked_token l c k v h
-    own (open-production {k = k} {p = p} {ks = ks} {t = t} h e w) = masked_node l c k p ks t h e ∙ ap (λ (u : List ℕ). p ∷ u) (own-all w)
+    own (open_token {k = k} {v = v} h) = masked_token l c k v h
+    own (open_production {k = k} {p = p} {ks = ks} {t = t} h e w) = masked_node l c k p ks t h e ∙ ap (λ (u : List ℕ). p ∷ u) (own_all w)
 
-    own-all : {ks : List ℕ} {t : Codes} → OpenAll l c ks t → masked_all l c ks t ≡ write_all tree t
-    own-all open-nil = all_nil l c []
-    own-all (open-cons {k = k} {ks = ks} {a = a} {t = t} h w) =
-        all_cons l c k ks a t ∙ (ap (λ (u : List ℕ). u ++ masked_all l c ks t) (own h) ∙ ap (λ (u : List ℕ). write tree a ++ u) (own-all w))
+    own_all : {ks : List ℕ} {t : Codes} → OpenAll l c ks t → masked_all l c ks t ≡ write_all tree t
+    own_all open_nil = all_nil l c []
+    own_all (open_cons {k = k} {ks = ks} {a = a} {t = t} h w) =
+        all_cons l c k ks a t ∙ (ap (λ (u : List ℕ). u ++ masked_all l c ks t) (own h) ∙ ap (λ (u : List ℕ). write tree a ++ u) (own_all w))
 
 pub visible_is_shown : VisibleIsShown
 visible_is_shown l c root plan kind block w = (shown l c kind block w, λ h. own l c h)
@@ -125,14 +125,14 @@ module _ (l : Language) (c : Card) (no_clash : (k p : ℕ) (ks : List ℕ) → a
   hidden_same k a b x y q e =
       let z : hidden_block ++ x ≡ hidden_block ++ y =
       ap (λ (u : List ℕ). u ++ x) (sym (masked_hidden l c k a q)) ∙ (e ∙ ap (λ (u : List ℕ). u ++ y) (masked_hidden l c k b q)) in
-      (both-hidden q, (head_same z).1)
+      (both_hidden q, (head_same z).1)
 
   token_same : (k v w : ℕ) (x y : List ℕ) → sees c k ≡ true → Same k (token v) (token w) x y → Agree l c k (token v) (token w) × (x ≡ y)
   token_same k v w x y q e =
       let z : two_bytes v ++ x ≡ two_bytes w ++ y =
       ap (λ (u : List ℕ). u ++ x) (sym (masked_token l c k v q)) ∙ (e ∙ ap (λ (u : List ℕ). u ++ y) (masked_token l c k w q)) in
       let s = value_same v w z in
-      (rw (← s.0) same-token, s.1)
+      (rw (← s.0) same_token, s.1)
 
   clash : (k p : ℕ) (ks : List ℕ) (r : Range) {A : Type 0} → arguments_of l k p ≡ some ks → range_of l k ≡ some r → A
   clash k p ks r e f = none_some (sym (no_clash k p ks e) ∙ f)
@@ -148,50 +148,50 @@ module _ (l : Language) (c : Card) (no_clash : (k p : ℕ) (ks : List ℕ) → a
 
   node_tells : (k p : ℕ) (ks : List ℕ) (s : Codes) → arguments_of l k p ≡ some ks → Tells ks s → {b : Code} → Typed l [] b k → (x y : List ℕ) → sees c k ≡ true
       → Same k (node k p s) b x y → Agree l c k (node k p s) b × (x ≡ y)
-  node_tells k p ks s e r (typed-node {p = w} {t = t} {ks = js} f g) x y q h =
+  node_tells k p ks s e r (typed_node {p = w} {t = t} {ks = js} f g) x y q h =
       let z = names_same k p w ks js s t x y q e f h in
       let same : js ≡ ks = some_inj (sym f ∙ (ap (arguments_of l k) (sym z.0) ∙ e)) in
       let a = r t (rw (← same) g) x y (z.1 ∙ ap (λ (i : List ℕ). masked_all l c i t ++ y) same) in
       (rw (← z.0) (same_production e a.0), a.1)
-  node_tells k p ks s e r (typed-token {c = v} f g) x y q h = clash k p ks v e f
-  node_tells k p ks s e r (typed-argument {i = i} {j = j} f) x y q h = no_argument i j k f
+  node_tells k p ks s e r (typed_token {c = v} f g) x y q h = clash k p ks v e f
+  node_tells k p ks s e r (typed_argument {i = i} {j = j} f) x y q h = no_argument i j k f
 
   token_tells : (k v : ℕ) (r : Range) → range_of l k ≡ some r → {b : Code} → Typed l [] b k → (x y : List ℕ) → sees c k ≡ true
       → Same k (token v) b x y → Agree l c k (token v) b × (x ≡ y)
-  token_tells k v r e (typed-node {p = w} {ks = js} f g) x y q h = clash k w js r f e
-  token_tells k v r e (typed-token {v = w} f g) x y q h = token_same k v w x y q h
-  token_tells k v r e (typed-argument {i = i} {j = j} f) x y q h = no_argument i j k f
+  token_tells k v r e (typed_node {p = w} {ks = js} f g) x y q h = clash k w js r f e
+  token_tells k v r e (typed_token {v = w} f g) x y q h = token_same k v w x y q h
+  token_tells k v r e (typed_argument {i = i} {j = j} f) x y q h = no_argument i j k f
 
   nil_tells : {u : Codes} → TypedAll l [] u [] → (x y : List ℕ) → masked_all l c [] nil ++ x ≡ masked_all l c [] u ++ y → AgreeAll l c [] nil u × (x ≡ y)
   unfolding masked_all
-  nil_tells typed-nil x y h = (agree-nil, h)
+  nil_tells typed_nil x y h = (agree_nil, h)
 
   cons_tells : (k : ℕ) (ks : List ℕ) (a : Code) (s : Codes)
       → ((b : Code) → Typed l [] b k → (x y : List ℕ) → Same k a b x y → Agree l c k a b × (x ≡ y)) → Tells ks s → {u : Codes} → TypedAll l [] u (k ∷ ks) → (x y : List ℕ)
       → masked_all l c (k ∷ ks) (cons a s) ++ x ≡ masked_all l c (k ∷ ks) u ++ y → AgreeAll l c (k ∷ ks) (cons a s) u × (x ≡ y)
-  cons_tells k ks a s one more (typed-cons {a = b} {t = t} g gs) x y h =
+  cons_tells k ks a s one more (typed_cons {a = b} {t = t} g gs) x y h =
       let z : masked l c k a ++ (masked_all l c ks s ++ x) ≡ masked l c k b ++ (masked_all l c ks t ++ y) =
       sym (append_assoc (masked l c k a) (masked_all l c ks s) x)
       ∙ (ap (λ (v : List ℕ). v ++ x) (sym (all_cons l c k ks a s))
       ∙ (h ∙ (ap (λ (v : List ℕ). v ++ y) (all_cons l c k ks b t) ∙ append_assoc (masked l c k b) (masked_all l c ks t) y))) in
       let first = one b g (masked_all l c ks s ++ x) (masked_all l c ks t ++ y) z in
       let others = more t gs x y first.1 in
-      (agree-cons first.0 others.0, others.1)
+      (agree_cons first.0 others.0, others.1)
 
   mutual
     tells : {k : ℕ} {a : Code} → Typed l [] a k → (b : Code) → Typed l [] b k → (x y : List ℕ) → Same k a b x y → Agree l c k a b × (x ≡ y)
-    tells (typed-node {k = k} {p = p} {t = s} {ks = ks} e d) b g x y h =
+    tells (typed_node {k = k} {p = p} {t = s} {ks = ks} e d) b g x y h =
         by_test (sees c k)
         (λ q. node_tells k p ks s e (λ u f i j n. tells_all d u f i j n) g x y q h)
         (λ q. hidden_same k (node k p s) b x y q h)
-    tells (typed-token {v = v} {k = k} {c = r} e d) b g x y h =
+    tells (typed_token {v = v} {k = k} {c = r} e d) b g x y h =
         by_test (sees c k) (λ q. token_tells k v r e g x y q h) (λ q. hidden_same k (token v) b x y q h)
-    tells (typed-argument {i = i} {j = j} {k = k} e) b g x y h = no_argument i j k e
+    tells (typed_argument {i = i} {j = j} {k = k} e) b g x y h = no_argument i j k e
 
     tells_all : {ks : List ℕ} {s : Codes} → TypedAll l [] s ks → (u : Codes) → TypedAll l [] u ks → (x y : List ℕ)
         → masked_all l c ks s ++ x ≡ masked_all l c ks u ++ y → AgreeAll l c ks s u × (x ≡ y)
-    tells_all typed-nil u g x y h = nil_tells g x y h
-    tells_all (typed-cons {a = a} {k = k} {t = s} {ks = ks} d ds) u g x y h =
+    tells_all typed_nil u g x y h = nil_tells g x y h
+    tells_all (typed_cons {a = a} {k = k} {t = s} {ks = ks} d ds) u g x y h =
         cons_tells k ks a s (λ b f i j n. tells d b f i j n) (λ v f i j n. tells_all ds v f i j n) g x y h
 
 pub mask_tells_the_rest : MaskTellsTheRest

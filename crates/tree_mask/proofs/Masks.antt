@@ -29,7 +29,7 @@ use Rattle.tree_reader.specs.declared.node.Syntax.TheVariants.{Tree}
 use Rattle.tree_reader.proofs.Sound.{read_done}
 use Rattle.format_card.specs.Card.{Card, sees}
 use Rattle.format_card.specs.Inner.Sets.{in_set}
-use Rattle.check_operations.proofs.Reading.{two, read_token_lem, read-deep, read-production, same_done, then_done}
+use Rattle.check_operations.proofs.Reading.{two, read_token_lem, read_deep, read_production, same_done, then_done}
 use Rattle.tree_mask.specs.Mask.{hidden_block, masked, masked_all}
 use Rattle.tree_mask.specs.Inner.Masking.{Puts, EndsTree, MasksTree, MasksTrees, MasksWhole}
 
@@ -74,8 +74,8 @@ module _ (x : Bool) (b : List ℕ) (at : ℕ) (o : List ℕ) (n : ℕ) (there : 
     token_short h =
         puts_same (sym token_is) (record { end = refl; bytes = λ i. absurd (omega arith) })
 
-    pub token-put : n + 1 < length o → Puts (cond x (take 2 (drop at b)) hidden_block) o (set (set o n (get_or b at 0)) (n + 1) (get_or b (at + 1) 0)) n (n + 2)
-    token-put h =
+    pub token_put : n + 1 < length o → Puts (cond x (take 2 (drop at b)) hidden_block) o (set (set o n (get_or b at 0)) (n + 1) (get_or b (at + 1) 0)) n (n + 2)
+    token_put h =
         let e : n + 1 ≡ suc n = omega arith in
         let w = set_stored o n (get_or b at 0 ∷ get_or b (at + 1) 0 ∷ []) (omega arith) in
         puts_same (sym token_is)
@@ -179,9 +179,9 @@ module _ (s index b : List ℕ) (kinds k at : ℕ) (o : List ℕ) (n levels : �
         omega (arith, w, ap length (ends.left l a rest z f), length-drop e b, length-drop at b)
 
     module _ {j class place : ℕ} (ej : j ≡ k) (ec : class ≡ get_or index j 0) (ep : place ≡ cond (eqb class 0) (production_place Tree index k b at) 0) where
-      pub not-cut : place ≡ 0 → length b - at < 2 → (l : Language) (a : Code) (rest : List ℕ) → Indexed index s l
+      pub not_cut : place ≡ 0 → length b - at < 2 → (l : Language) (a : Code) (rest : List ℕ) → Indexed index s l
           → read tree l [] levels k (drop at b) ≡ done a rest → ⊥
-      not-cut p h l a rest z f =
+      not_cut p h l a rest z f =
           let t = read_token_lem s index b k at kind bytes ej ec ep l z levels a rest f p in omega (arith, t.there)
 
       pub at_token : {x : Bool} {o' : List ℕ} {m : ℕ} → place ≡ 0 → x ≡ in_set kinds k → Puts (cond x (take 2 (drop at b)) hidden_block) o o' n m
@@ -198,14 +198,14 @@ module _ (s index b : List ℕ) (kinds k at : ℕ) (o : List ℕ) (n levels : �
       module _ (pos : place ≡ 0 → ⊥) where
         pub not_deep : levels ≡ 0 → (l : Language) (a : Code) (rest : List ℕ) → Indexed index s l
             → read tree l [] levels k (drop at b) ≡ done a rest → ⊥
-        not_deep h l a rest z f = read-deep s index b k at kind bytes ej ec ep l z levels a rest f pos h
+        not_deep h l a rest z f = read_deep s index b k at kind bytes ej ec ep l z levels a rest f pos h
 
-        pub at-operands : {size : ℕ} {o₁ o₂ : List ℕ} {e m : ℕ} → (levels ≡ 0 → ⊥) → size ≡ pair_at s place → in_set kinds k ≡ true
+        pub at_operands : {size : ℕ} {o₁ o₂ : List ℕ} {e m : ℕ} → (levels ≡ 0 → ⊥) → size ≡ pair_at s place → in_set kinds k ≡ true
             → Puts (get_or b at 0 ∷ []) o o₁ n (n + 1)
             → MasksTrees s index kinds (place + 4) (place + 2 + size) b (at + 1) (levels - 1) o₁ o₂ (n + 1) e m
             → MasksTree s index kinds k b at levels o o₂ n e m
-        at-operands some_level es shown w all l card a rest z c f =
-            let d = read-production s index b k at kind bytes ej ec ep l z levels a rest f pos some_level es in
+        at_operands some_level es shown w all l card a rest z c f =
+            let d = read_production s index b k at kind bytes ej ec ep l z levels a rest f pos some_level es in
             let v = masked_node l card k (get_or b at 0) _ d.operands (sym (c k) ∙ shown) d.known in
             let y = all l card d.operands rest z c d.reads in
             record { left = y.left; put = puts_same (sym (ap (masked l card k) d.is ∙ v)) (puts_then w y.put) }
@@ -265,9 +265,9 @@ module _ (s index : List ℕ) (kinds q stop : ℕ) (b : List ℕ) (to levels : �
         }
 
     -- A tree that cannot be read.
-    pub all-not : {o' : List ℕ} {e m : ℕ} → ((l : Language) (a : Code) (rest : List ℕ) → Indexed index s l → read tree l [] levels k (drop to b) ≡ done a rest → ⊥)
+    pub all_not : {o' : List ℕ} {e m : ℕ} → ((l : Language) (a : Code) (rest : List ℕ) → Indexed index s l → read tree l [] levels k (drop to b) ≡ done a rest → ⊥)
         → MasksTrees s index kinds q stop b to levels o o' n e m
-    all-not none l card t rest z c e = absurd (none l _ _ z (first l card t rest e).reads)
+    all_not none l card t rest z c e = absurd (none l _ _ z (first l card t rest e).reads)
 
     pub all_next : {o₁ o₂ : List ℕ} {e m x h : ℕ} → MasksTree s index kinds k b to levels o o₁ n e m
         → MasksTrees s index kinds (q + 1) stop b e levels o₁ o₂ m x h → MasksTrees s index kinds q stop b to levels o o₂ n x h

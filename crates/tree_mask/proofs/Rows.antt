@@ -9,7 +9,7 @@ use lib.Dec.{eqb}
 use Rattle.tree_reader.specs.Inner.Index.{Sound}
 use Rattle.tree_reader.specs.Inner.Positions.{production_place, KindsIn}
 use Rattle.tree_reader.specs.declared.node.Syntax.TheVariants.{Tree}
-use Rattle.check_operations.proofs.Reading.{at_name, at-kinds}
+use Rattle.check_operations.proofs.Reading.{at_name, at_kinds}
 use Rattle.tree_mask.specs.declared.row.Row.{Row}
 use Rattle.tree_mask.specs.Inner.Rows.{inner_row, Walkable}
 
@@ -37,7 +37,7 @@ module _ (s index b : List ℕ) (k : ℕ) (row : Row) (kind : k < 32) (bytes : (
   unfolding inner_row
   inner_walk z behind = rw ei (record {
     sound = z;
-    kinds = at-kinds s index b k row.tree kind bytes ej ec ep pos refl z;
+    kinds = at_kinds s index b k row.tree kind bytes ej ec ep pos refl z;
     inside = omega (arith, at_name s index b k row.tree kind bytes ej ec ep pos);
     behind = omega arith;
   })

@@ -17,7 +17,7 @@ use Rattle.format_card.specs.Inner.Sets.{in_set}
 use Rattle.tree_mask.specs.declared.row.Row.{Row}
 use Rattle.tree_mask.specs.Inner.Rows.{next_row, end_row, inner_row, Walkable, Nearer}
 use Rattle.tree_mask.specs.Inner.Masking.{Puts, MasksTree, MasksRow, Goes, Advances}
-use Rattle.tree_mask.proofs.Masks.{at-operands, all_done, all-not, all_next, all_last}
+use Rattle.tree_mask.proofs.Masks.{at_operands, all_done, all_not, all_next, all_last}
 use Rattle.tree_mask.proofs.Rows.{stop_in, next_kinds}
 
 -- Nothing is left of a row.
@@ -66,7 +66,7 @@ module _ (s index b : List ℕ) (kinds : ℕ) (row : Row) (w : Walkable s index 
   ended en o₁ none = rw en (record {
     walk = record { sound = w.sound; kinds = λ x h i. absurd (omega arith); inside = w.inside; behind = w.behind };
     nearer = record { levels = omega arith; less = omega arith };
-    goes = λ o₂ e h all. all-not s index kinds row.kind row.stop b row.tree row.levels o row.text ek more (stop_in s index b row w more) none;
+    goes = λ o₂ e h all. all_not s index kinds row.kind row.stop b row.tree row.levels o row.text ek more (stop_in s index b row w more) none;
   })
 
   pub entered : (inner : Row) (o₁ : List ℕ)
@@ -86,4 +86,4 @@ pub inner_put : (s index b : List ℕ) (kinds k : ℕ) (row : Row) (o : List ℕ
     → (o₂ : List ℕ) (e m : ℕ) → MasksRow s index kinds b inner o₁ o₂ e m → MasksTree s index kinds k b row.tree row.levels o o₂ row.text e m
 unfolding inner_row
 inner_put s index b kinds k row o kind bytes ej ec ep pos level shown o₁ name ei o₂ e m all =
-    at-operands s index b kinds k row.tree o row.text row.levels kind bytes ej ec ep pos (λ h. omega arith) refl shown name (rw ei at all)
+    at_operands s index b kinds k row.tree o row.text row.levels kind bytes ej ec ep pos (λ h. omega arith) refl shown name (rw ei at all)

@@ -9,15 +9,15 @@ use Rattle.format_card.specs.Card.{Card, sees}
 -- the same token; or both are the same production, and their arguments agree one by one.
 mutual
   pub data Agree (l : Language) (card : Card) : ℕ → Code → Code → Type 0 where
-    both-hidden : {k : ℕ} {a b : Code} → sees card k ≡ false → Agree l card k a b
-    same-token : {k v : ℕ} → Agree l card k (token v) (token v)
+    both_hidden : {k : ℕ} {a b : Code} → sees card k ≡ false → Agree l card k a b
+    same_token : {k v : ℕ} → Agree l card k (token v) (token v)
     same_production : {k p : ℕ} {ks : List ℕ} {s t : Codes} → arguments_of l k p ≡ some ks → AgreeAll l card ks s t
         → Agree l card k (node k p s) (node k p t)
 
   -- Arguments of these kinds agree.
   pub data AgreeAll (l : Language) (card : Card) : List ℕ → Codes → Codes → Type 0 where
-    agree-nil : AgreeAll l card [] nil nil
-    agree-cons : {k : ℕ} {ks : List ℕ} {a b : Code} {s t : Codes} → Agree l card k a b → AgreeAll l card ks s t
+    agree_nil : AgreeAll l card [] nil nil
+    agree_cons : {k : ℕ} {ks : List ℕ} {a b : Code} {s t : Codes} → Agree l card k a b → AgreeAll l card ks s t
         → AgreeAll l card (k ∷ ks) (cons a s) (cons b t)
 
 -- In the block a of kind k stands the block b of kind j, and the card sees every block on the way to it, a and b included.
@@ -29,17 +29,17 @@ mutual
 
   -- It stands in one of the arguments.
   pub data VisibleAmong (l : Language) (card : Card) (j : ℕ) (b : Code) : List ℕ → Codes → Type 0 where
-    in-first : {k : ℕ} {ks : List ℕ} {a : Code} {t : Codes} → Visible l card j b k a → VisibleAmong l card j b (k ∷ ks) (cons a t)
-    in-later : {k : ℕ} {ks : List ℕ} {a : Code} {t : Codes} → VisibleAmong l card j b ks t → VisibleAmong l card j b (k ∷ ks) (cons a t)
+    in_first : {k : ℕ} {ks : List ℕ} {a : Code} {t : Codes} → Visible l card j b k a → VisibleAmong l card j b (k ∷ ks) (cons a t)
+    in_later : {k : ℕ} {ks : List ℕ} {a : Code} {t : Codes} → VisibleAmong l card j b ks t → VisibleAmong l card j b (k ∷ ks) (cons a t)
 
 -- The card sees the block a of kind k and every block in it.
 mutual
   pub data Open (l : Language) (card : Card) : ℕ → Code → Type 0 where
-    open-token : {k v : ℕ} → sees card k ≡ true → Open l card k (token v)
-    open-production : {k p : ℕ} {ks : List ℕ} {t : Codes} → sees card k ≡ true → arguments_of l k p ≡ some ks → OpenAll l card ks t
+    open_token : {k v : ℕ} → sees card k ≡ true → Open l card k (token v)
+    open_production : {k p : ℕ} {ks : List ℕ} {t : Codes} → sees card k ≡ true → arguments_of l k p ≡ some ks → OpenAll l card ks t
         → Open l card k (node k p t)
 
   -- The same of arguments of these kinds.
   pub data OpenAll (l : Language) (card : Card) : List ℕ → Codes → Type 0 where
-    open-nil : OpenAll l card [] nil
-    open-cons : {k : ℕ} {ks : List ℕ} {a : Code} {t : Codes} → Open l card k a → OpenAll l card ks t → OpenAll l card (k ∷ ks) (cons a t)
+    open_nil : OpenAll l card [] nil
+    open_cons : {k : ℕ} {ks : List ℕ} {a : Code} {t : Codes} → Open l card k a → OpenAll l card ks t → OpenAll l card (k ∷ ks) (cons a t)

@@ -10,7 +10,7 @@ use Rattle.outcome.specs.declared.Reason.TheVariants.{NoBlock, Hidden}
 use Rattle.format_language.specs.Language.{Language}
 use Rattle.tree_reader.specs.Code.{Code}
 use Rattle.tree_index.specs.Operations.{check_indexed}
-use Rattle.tree_index.proofs.Owning.{refused-own}
+use Rattle.tree_index.proofs.Owning.{refused_own}
 use Rattle.tree_block.specs.Blocks.{block_of, Reached, block_at, every_kind}
 use Rattle.tree_block.specs.Operations.{found, find_block}
 use Rattle.tree_block.specs.Inner.Descent.{Ends}
@@ -46,7 +46,7 @@ module _ (s : List ℕ) (root : ℕ) (b i : List ℕ) {o : Outcome} (eo : o ≡ 
   unfolding show_node find_block
   node-refused {x} q p w =
       says_nothing x (show_node s root b i path) p
-      (ap node_shown (refused-own s root b i (λ l t. found (block_at every_kind l path (block_of 0 root t))) (sym eo ∙ q))) w
+      (ap node_shown (refused_own s root b i (λ l t. found (block_at every_kind l path (block_of 0 root t))) (sym eo ∙ q))) w
 
   pub node-found : {n : ℕ} (accepted : o ≡ Accepted n) (p : Described)
       → Says (node_shown (found (block_at every_kind (owned s root b i eo accepted).language path (block_of 0 root (owned s root b i eo accepted).subject)))) p
@@ -56,4 +56,4 @@ module _ (s : List ℕ) (root : ℕ) (b i : List ℕ) {o : Outcome} (eo : o ≡ 
 
 -- The same, told by numbers.
 pub node-told : {d : NodeShown} {r : Described} → Says d r → (n : ℕ) → n ≡ number_of r.outcome → NodeTold d n r.kind r.name r.arguments
-node-told w n e = record { number_is = e ∙ ap number_of w.outcome; kind_is = w.kind; name-is = w.name; arguments-is = w.arguments }
+node-told w n e = record { number_is = e ∙ ap number_of w.outcome; kind_is = w.kind; name_is = w.name; arguments-is = w.arguments }

@@ -14,7 +14,7 @@ use Rattle.format_language.specs.Language.{Language, arguments_of}
 use Rattle.format_language.specs.LanguageFile.{language_of}
 use Rattle.tree_reader.specs.Code.{Code, Codes, nil, cons}
 use Rattle.tree_reader.specs.Syntax.{write, tree}
-use Rattle.tree_reader.specs.Typing.{Typed, typed-node, typed-token, typed-argument}
+use Rattle.tree_reader.specs.Typing.{Typed, typed_node, typed_token, typed_argument}
 use Rattle.tree_index.specs.Operations.{indexed_tree}
 use Rattle.tree_block.specs.Blocks.{Block, block_of, argument_after, argument_of, reached, nowhere, block_at, every_kind}
 use Rattle.tree_block.specs.Operations.{found, find_block}
@@ -58,18 +58,18 @@ argument_none (k ∷ ks) (cons t ts) (suc n) start h = argument_none ks ts n (st
 module _ {l : Language} (start : ℕ) where
   numbered_some : {t : Code} {k : ℕ} → Typed l [] t k → (i : ℕ) → 1 ≤ i → i ≤ argument_count t → (c : Block) × (argument_of l start t i ≡ some c)
   unfolding argument_of
-  numbered_some (typed-node e w) zero h g = absurd (omega arith)
-  numbered_some (typed-node {t = ts} {ks = ks} e w) (suc n) h g = rw e (argument_some ks ts n (start + 1) (as_many w) (omega arith))
-  numbered_some (typed-token e w) i h g = absurd (omega arith)
-  numbered_some (typed-argument {i = a} {j = m} e) i h g = no_use a m e
+  numbered_some (typed_node e w) zero h g = absurd (omega arith)
+  numbered_some (typed_node {t = ts} {ks = ks} e w) (suc n) h g = rw e (argument_some ks ts n (start + 1) (as_many w) (omega arith))
+  numbered_some (typed_token e w) i h g = absurd (omega arith)
+  numbered_some (typed_argument {i = a} {j = m} e) i h g = no_use a m e
 
   numbered_none : {t : Code} {k : ℕ} → Typed l [] t k → (i : ℕ) → (i ≡ 0) ⊎ (argument_count t < i) → argument_of l start t i ≡ none
   unfolding argument_of
-  numbered_none (typed-node e w) zero h = refl
-  numbered_none (typed-node {k = k} {p = p} {t = ts} e w) (suc n) (inl h) = absurd (omega arith)
-  numbered_none (typed-node {k = k} {p = p} {t = ts} e w) (suc n) (inr h) = argument_none (get_or (arguments_of l k p) []) ts n (start + 1) (omega arith)
-  numbered_none (typed-token e w) i h = refl
-  numbered_none (typed-argument e) i h = refl
+  numbered_none (typed_node e w) zero h = refl
+  numbered_none (typed_node {k = k} {p = p} {t = ts} e w) (suc n) (inl h) = absurd (omega arith)
+  numbered_none (typed_node {k = k} {p = p} {t = ts} e w) (suc n) (inr h) = argument_none (get_or (arguments_of l k p) []) ts n (start + 1) (omega arith)
+  numbered_none (typed_token e w) i h = refl
+  numbered_none (typed_argument e) i h = refl
 
 accepted_block : (m : Result Block) → (node_shown m).outcome ≡ Accepted 0 → (b : Block) × (m ≡ value b)
 accepted_block (value b) e = (b, refl)

@@ -14,7 +14,7 @@ use Rattle.outcome.specs.Outcome.{value}
 use Rattle.outcome.specs.declared.Outcome.TheVariants.{Accepted}
 use Rattle.format_language.specs.Language.{Language}
 use Rattle.tree_reader.specs.Code.{Code, node, token, Codes}
-use Rattle.tree_reader.specs.Typing.{kind_at, Typed, TypedAll, typed-node, typed-token, typed-argument, typed-nil, typed-cons}
+use Rattle.tree_reader.specs.Typing.{kind_at, Typed, TypedAll, typed_node, typed_token, typed_argument, typed_nil, typed_cons}
 use Rattle.tree_reader.specs.Inner.Positions.{KindsIn}
 use Rattle.tree_reader.proofs.Larger.{apart}
 use Rattle.tree_reader.proofs.Members.{in_below}
@@ -29,8 +29,8 @@ use Rattle.tree_node.specs.Answers.{Says}
 -- As many trees as kinds.
 pub as_many : {l : Language} {ts : Codes} {ks : List ℕ} → TypedAll l [] ts ks → count ts ≡ length ks
 unfolding count
-as_many typed-nil = refl
-as_many (typed-cons h hs) = ap suc (as_many hs)
+as_many typed_nil = refl
+as_many (typed_cons h hs) = ap suc (as_many hs)
 
 -- How many kinds stand from q up to e.
 kinds_length : (s : List ℕ) (q e : ℕ) → KindsIn s q e → length (slice q e s) ≡ e - q
@@ -61,26 +61,26 @@ module _ (x s b : List ℕ) (at k : ℕ) (l : Language) (t : Code) (h : There x 
     class_is = ec ∙ ap (λ (i : ℕ). get_or x i 0) ej
 
     -- A class has tokens only, any other kind productions only.
-    is-token : (class ≡ 0 → ⊥) → (u : Code) → Typed l [] u k → (v : ℕ) × (u ≡ token v)
-    is-token c u (typed-token {v = v} e w) = (v, refl)
-    is-token c u (typed-node {p = p} {ks = ks} e w) =
+    is_token : (class ≡ 0 → ⊥) → (u : Code) → Typed l [] u k → (v : ℕ) × (u ≡ token v)
+    is_token c u (typed_token {v = v} e w) = (v, refl)
+    is_token c u (typed_node {p = p} {ks = ks} e w) =
         none_some (sym (apart l h.index-of.apart k p ks e) ∙ class_known s x l h.index-of.indexed k small class class_is c)
-    is-token c u (typed-argument {i = i} {j = m} e) = no_use i m e
+    is_token c u (typed_argument {i = i} {j = m} e) = no_use i m e
 
-    pub token-shown : (class ≡ 0 → ⊥) → Says (node_shown (value (block_of at k t))) (record { outcome = Accepted 0; kind = k; name = 256; arguments = 0 })
-    token-shown c =
-        let y = is-token c t h.lies.typed in
+    pub token_shown : (class ≡ 0 → ⊥) → Says (node_shown (value (block_of at k t))) (record { outcome = Accepted 0; kind = k; name = 256; arguments = 0 })
+    token_shown c =
+        let y = is_token c t h.lies.typed in
         rw y.1 (record { outcome = refl; kind = refl; name = refl; arguments = refl })
 
     is_production : class ≡ 0 → (u : Code) → Typed l [] u k → (p : ℕ) × (ts : Codes) × (u ≡ node k p ts)
-    is_production c u (typed-token e w) = none_some (sym (class_none s x l h.index-of.indexed k small class class_is c) ∙ e)
-    is_production c u (typed-node {p = p} {t = ts} e w) = (p, ts, refl)
-    is_production c u (typed-argument {i = i} {j = m} e) = no_use i m e
+    is_production c u (typed_token e w) = none_some (sym (class_none s x l h.index-of.indexed k small class class_is c) ∙ e)
+    is_production c u (typed_node {p = p} {t = ts} e w) = (p, ts, refl)
+    is_production c u (typed_argument {i = i} {j = m} e) = no_use i m e
 
-    shape-count : {u : Code} {ts : Codes} {ks : List ℕ} {f : ℕ} → Shape l k u ts ks f → argument_count u ≡ count ts
+    shape_count : {u : Code} {ts : Codes} {ks : List ℕ} {f : ℕ} → Shape l k u ts ks f → argument_count u ≡ count ts
     unfolding count
-    shape-count (production e) = refl
-    shape-count valued = refl
+    shape_count (production e) = refl
+    shape_count valued = refl
 
     module _ (none : class ≡ 0) where
       parts : (p : ℕ) × (ts : Codes) × (t ≡ node k p ts)
@@ -94,13 +94,13 @@ module _ (x s b : List ℕ) (at k : ℕ) (l : Language) (t : Code) (h : There x 
       pub name_inside : at < length b
       name_inside = byte.0
 
-      pub production-shown : (q e to : ℕ) → Opens x s b at k l t q e to → (p n : ℕ) → p ≡ get_or b at 0 → n ≡ e - q
+      pub production_shown : (q e to : ℕ) → Opens x s b at k l t q e to → (p n : ℕ) → p ≡ get_or b at 0 → n ≡ e - q
           → Says (node_shown (value (block_of at k t))) (record { outcome = Accepted 0; kind = k; name = p; arguments = n })
-      production-shown q e to o p n ep en = record {
+      production_shown q e to o p n ep en = record {
         outcome = refl;
         kind = refl;
         name = ep ∙ (byte.1 ∙ sym (ap name_of parts.2));
-        arguments = en ∙ sym (shape-count o.shape ∙ (as_many o.row.lie.typed ∙ kinds_length s q e o.kinds));
+        arguments = en ∙ sym (shape_count o.shape ∙ (as_many o.row.lie.typed ∙ kinds_length s q e o.kinds));
       }
 
       -- So few that they are a number of 32 bits.

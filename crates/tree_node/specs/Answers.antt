@@ -15,5 +15,5 @@ pub record Says (d : NodeShown) (r : Described) : Type 0 where
 pub record NodeTold (d : NodeShown) (number kind name arguments : ℕ) : Type 0 where
   pub number_is : number ≡ number_of d.outcome
   pub kind_is : kind ≡ d.kind
-  pub name-is : name ≡ d.name
+  pub name_is : name ≡ d.name
   pub arguments-is : arguments ≡ d.arguments

@@ -23,7 +23,7 @@ use Rattle.format_language.proofs.Facts.{entry_facts, class_is, production_is}
 use Rattle.format_language.proofs.Holds.{holds_entries}
 use Rattle.tree_reader.specs.Inner.Positions.{KindsIn}
 use Rattle.tree_reader.specs.Inner.Index.{put_all, range_before, arguments_before, Sound, Indexed}
-use Rattle.tree_reader.proofs.Placed.{place_of, puts_length, puts_place, found, Groups, of_first, of_second, looked-kind, looked-name}
+use Rattle.tree_reader.proofs.Placed.{place_of, puts_length, puts_place, found, Groups, of_first, of_second, looked_kind, looked_name}
 
 -- The kinds of a part.
 pub part_kinds : (m : ℕ) (s : List ℕ) (q e : ℕ) → e - q ≡ m → e ≤ length s → all is_kind (slice q e s) ≡ true → KindsIn s q e
@@ -118,13 +118,13 @@ module _ (s index : List ℕ) (bytes : (i : ℕ) → get_or s i 0 < 256) (short 
     entries = e;
     range = λ k h.
         ap (first (range_at k)) (sym held.entries)
-        ∙ (looked-kind 0x11 s (entry_whole s) (IsClass s) (IsProduction s) none_other (groups s) (entry_at s) (range_at k) (range_before s) refl
+        ∙ (looked_kind 0x11 s (entry_whole s) (IsClass s) (IsProduction s) none_other (groups s) (entry_at s) (range_at k) (range_before s) refl
         (class_range s) (λ p. rw add-one refl) k h
         (λ p c. ap (range_at k) (class_is s p c)) (λ p c. ap (range_at k) (production_is s p c)) (λ p o. absurd o) (places s) held.whole
         ∙ ap (range_before s) (sym (at_key k (omega arith))));
     arguments = λ k p h j.
         ap (first (arguments_at k p)) (sym held.entries)
-        ∙ (looked-name 0x11 s (entry_whole s) (IsClass s) (IsProduction s) none_other (groups s) (entry_at s) (arguments_at k p) (arguments_before s) refl
+        ∙ (looked_name 0x11 s (entry_whole s) (IsClass s) (IsProduction s) none_other (groups s) (entry_at s) (arguments_at k p) (arguments_before s) refl
         (λ q. slice (q + 5) (field_end s q) s) (λ q. rw add-one refl) k h p j bytes
         (λ q c. ap (arguments_at k p) (class_is s q c)) (λ q c. ap (arguments_at k p) (production_is s q c)) (λ q o. absurd o) (places s) held.whole
         ∙ ap (arguments_before s) (sym (at_key (production_key k p) (omega arith))));

@@ -26,9 +26,9 @@ module _ (ends : List ℕ) (kind at slot end : ℕ) (small : kind < 32) (inside 
   both = set one (2 * slot + 1) end
 
   module _ (k p e : ℕ) (h : Kept both k p e) where
-    by-slot : (b : Bool) → eqb h.slot slot ≡ b → Kept ends k p e ⊎ ((k ≡ kind) × (p ≡ at) × (e ≡ end))
+    by_slot : (b : Bool) → eqb h.slot slot ≡ b → Kept ends k p e ⊎ ((k ≡ kind) × (p ≡ at) × (e ≡ end))
     unfolding one both
-    by-slot true q =
+    by_slot true q =
         let s : h.slot ≡ slot = eqb-true h.slot slot q in
         let n : 2 * slot ≡ 2 * slot + 1 → ⊥ = λ z. omega arith in
         let key : get_or both (2 * h.slot) 0 ≡ at * 32 + kind =
@@ -37,7 +37,7 @@ module _ (ends : List ℕ) (kind at slot end : ℕ) (small : kind < 32) (inside 
         ap (λ (i : ℕ). get_or both (2 * i + 1) 0) s ∙ get_or-set_same one (2 * slot + 1) end 0 (omega (arith, length-set ends (2 * slot) (at * 32 + kind))) in
         let same : at * 32 + kind ≡ p * 32 + k = sym key ∙ h.key in
         inr (omega (arith, h.kind), omega (arith, h.kind), sym h.end ∙ far)
-    by-slot false q =
+    by_slot false q =
         let s : h.slot ≡ slot → ⊥ = eqb-false h.slot slot q in
         let key : get_or both (2 * h.slot) 0 ≡ get_or ends (2 * h.slot) 0 =
         get_or-set_other one (2 * slot + 1) (2 * h.slot) end 0 (λ z. omega arith) ∙ get_or-set_other ends (2 * slot) (2 * h.slot) (at * 32 + kind) 0 (λ z. s (omega arith)) in
@@ -48,7 +48,7 @@ module _ (ends : List ℕ) (kind at slot end : ℕ) (small : kind < 32) (inside 
   pub kept_put : (k p e : ℕ) → Kept (set (set ends (2 * slot) (at * 32 + kind)) (2 * slot + 1) end) k p e
       → Kept ends k p e ⊎ ((k ≡ kind) × (p ≡ at) × (e ≡ end))
   unfolding one both
-  kept_put k p e h = by-slot k p e h (eqb h.slot slot) refl
+  kept_put k p e h = by_slot k p e h (eqb h.slot slot) refl
 
 -- What marks a table is the end of no term.
 pub kept_marked : (ends : List ℕ) (slot : ℕ) → 2 * slot + 1 < length ends → (k p e : ℕ) → Kept (set (set ends (2 * slot) (0 * 32 + 1)) (2 * slot + 1) 0) k p e → Kept ends k p e

@@ -12,7 +12,7 @@ use Rattle.format_language.specs.Language.{Entry, Language, entry_key, Range, in
 use Rattle.format_language.proofs.Lookup.{range_mem, arguments_mem, mem_range, mem_arguments, clashes_none}
 use Rattle.format_language.proofs.Ranges.{within_itself, value_within}
 use Rattle.tree_reader.specs.Code.{Code, token, Codes}
-use Rattle.tree_reader.specs.Typing.{Uses, Typed, TypedAll, typed-node, typed-token, typed-argument, typed-nil, typed-cons}
+use Rattle.tree_reader.specs.Typing.{Uses, Typed, TypedAll, typed_node, typed_token, typed_argument, typed_nil, typed_cons}
 use Rattle.tree_reader.specs.Syntax.{code, Read, done, deep, broken, and_then, read_all, read_operands, read_node, read_token, read_use, read_code_level, read_level, current, past_levels, read_by, read}
 use Rattle.tree_reader.proofs.RoundTrip.{Apart}
 
@@ -37,14 +37,14 @@ apart l e k p ks q = go (range_of l k) refl
 
 module _ {l m : Language} (w : Larger l m) where
   mutual
-    pub typed-larger : {r : Uses} {a : Code} {k : ℕ} → Typed l r a k → Typed m r a k
-    typed-larger (typed-node e h) = typed-node (w.productions _ _ _ e) (typed-largerAll h)
-    typed-larger (typed-token {v = v} {c = c} e h) = let d = w.classes _ c e in typed-token d.1 (value_within c d.0 d.2 v h)
-    typed-larger (typed-argument e) = typed-argument e
+    pub typed_larger : {r : Uses} {a : Code} {k : ℕ} → Typed l r a k → Typed m r a k
+    typed_larger (typed_node e h) = typed_node (w.productions _ _ _ e) (typed_larger_all h)
+    typed_larger (typed_token {v = v} {c = c} e h) = let d = w.classes _ c e in typed_token d.1 (value_within c d.0 d.2 v h)
+    typed_larger (typed_argument e) = typed_argument e
 
-    pub typed-largerAll : {r : Uses} {t : Codes} {ks : List ℕ} → TypedAll l r t ks → TypedAll m r t ks
-    typed-largerAll typed-nil = typed-nil
-    typed-largerAll (typed-cons h hs) = typed-cons (typed-larger h) (typed-largerAll hs)
+    pub typed_larger_all : {r : Uses} {t : Codes} {ks : List ℕ} → TypedAll l r t ks → TypedAll m r t ks
+    typed_larger_all typed_nil = typed_nil
+    typed_larger_all (typed_cons h hs) = typed_cons (typed_larger h) (typed_larger_all hs)
 
 -- The second gives what the first gives.
 pub data Keeps {A : Type 0} : Read A → Read A → Type 0 where

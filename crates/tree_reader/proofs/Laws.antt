@@ -59,9 +59,9 @@ module _ (s index : List ℕ) (k : ℕ) (b : List ℕ) (at : ℕ) where
   name_end h = simp (le-leb (length b) at h)
 
   module _ {j p place : ℕ} (there : at < length b) (ej : j ≡ k) (ep : p ≡ get_or b at 0) (ei : place ≡ get_or index (production_key j p) 0) where
-    pub name-unknown : place ≡ 0 → Leaf Broken ≡ name_at s index k b at
+    pub name_unknown : place ≡ 0 → Leaf Broken ≡ name_at s index k b at
     unfolding name_at operands_at
-    name-unknown h = cc (lt-leb (length b) at there)
+    name_unknown h = cc (lt-leb (length b) at there)
 
     pub name_known : {first last : ℕ} → (place ≡ 0 → ⊥) → first ≡ place + 4 → last ≡ place + 2 + pair_at s place → Operands first last (at + 1) ≡ name_at s index k b at
     unfolding name_at operands_at
@@ -82,14 +82,14 @@ module _ (u : List ℕ) (k i j : ℕ) where
   is_there h g = simp (ne_eqb i 0 h, lt-leb (length u) (8191 + i) g)
 
   module _ {x : ℕ} (some : i ≡ 0 → ⊥) (there : 8191 + i < length u) (ex : x ≡ get_or u (8191 + i) 0) where
-    pub is-outside : length u ≤ x * 256 + j → false ≡ argument_is u k i j
-    is-outside o =
+    pub is_outside : length u ≤ x * 256 + j → false ≡ argument_is u k i j
+    is_outside o =
         let z : get_or u (get_or u (8191 + i) 0 * 256 + j) 0 ≡ 0 = past_zero u _ (rw (sym ex) o) in
         let n : 0 ≡ k + 1 → ⊥ = λ q. omega arith in
         sym (ne_eqb 0 (k + 1) n) ∙ (ap (λ y. eqb y (k + 1)) (sym z) ∙ is_there some there)
 
-    pub is-kind : {a b : ℕ} → a ≡ get_or u (x * 256 + j) 0 → b ≡ k → eqb a (b + 1) ≡ argument_is u k i j
-    is-kind ea eb = rw (ea, eb, ex) (is_there some there)
+    pub is_kind : {a b : ℕ} → a ≡ get_or u (x * 256 + j) 0 → b ≡ k → eqb a (b + 1) ≡ argument_is u k i j
+    is_kind ea eb = rw (ea, eb, ex) (is_there some there)
 
 -- argument
 module _ (u : List ℕ) (k : ℕ) (b : List ℕ) (at : ℕ) where
@@ -98,13 +98,13 @@ module _ (u : List ℕ) (k : ℕ) (b : List ℕ) (at : ℕ) where
   argument_end h = simp (le-leb (length b) at h)
 
   module _ {i : ℕ} {t : Bool} (there : at < length b) (ei : i ≡ get_or b at 0) (et : t ≡ argument_is u k i 0) where
-    pub argument-good : t ≡ true → End (at + 1) ≡ argument_at u k b at
+    pub argument_good : t ≡ true → End (at + 1) ≡ argument_at u k b at
     unfolding argument_at
-    argument-good h = cc (lt-leb (length b) at there)
+    argument_good h = cc (lt-leb (length b) at there)
 
-    pub argument-bad : t ≡ false → Broken ≡ argument_at u k b at
+    pub argument_bad : t ≡ false → Broken ≡ argument_at u k b at
     unfolding argument_at
-    argument-bad h = cc (lt-leb (length b) at there)
+    argument_bad h = cc (lt-leb (length b) at there)
 
 -- numbered
 module _ (u : List ℕ) (k : ℕ) (b : List ℕ) (at : ℕ) where
@@ -118,13 +118,13 @@ module _ (u : List ℕ) (k : ℕ) (b : List ℕ) (at : ℕ) where
 
   module _ {i j : ℕ} {t : Bool} (there : 2 ≤ length b - at) (ei : i ≡ get_or b at 0) (ej : j ≡ get_or b (at + 1) 0)
       (some : get_or b (at + 1) 0 ≡ 0 → ⊥) (et : t ≡ argument_is u k i j) where
-    pub numbered-good : t ≡ true → End (at + 2) ≡ numbered_at u k b at
+    pub numbered_good : t ≡ true → End (at + 2) ≡ numbered_at u k b at
     unfolding numbered_at
-    numbered-good h = cc (le-ltb (length b - at) 2 there, ne_eqb (get_or b (at + 1) 0) 0 some)
+    numbered_good h = cc (le-ltb (length b - at) 2 there, ne_eqb (get_or b (at + 1) 0) 0 some)
 
-    pub numbered-bad : t ≡ false → Broken ≡ numbered_at u k b at
+    pub numbered_bad : t ≡ false → Broken ≡ numbered_at u k b at
     unfolding numbered_at
-    numbered-bad h = cc (le-ltb (length b - at) 2 there, ne_eqb (get_or b (at + 1) 0) 0 some)
+    numbered_bad h = cc (le-ltb (length b - at) 2 there, ne_eqb (get_or b (at + 1) 0) 0 some)
 
 -- tree_node
 module _ (s index : List ℕ) (k : ℕ) (b : List ℕ) (at : ℕ) {j place : ℕ} (ej : j ≡ k) (ei : place ≡ get_or index j 0) where
@@ -152,9 +152,9 @@ module _ (s index u : List ℕ) (k : ℕ) (b : List ℕ) (at : ℕ) where
     unfolding code_leaf
     leaf_token h ej ei e = cc (lt-leb (length b) at there)
 
-    pub leaf-numbered : {r : Read} → get_or b at 0 ≡ 4 → r ≡ numbered_at u k b (at + 1) → r ≡ code_leaf s index u k b at
+    pub leaf_numbered : {r : Read} → get_or b at 0 ≡ 4 → r ≡ numbered_at u k b (at + 1) → r ≡ code_leaf s index u k b at
     unfolding code_leaf
-    leaf-numbered h e = cc (lt-leb (length b) at there)
+    leaf_numbered h e = cc (lt-leb (length b) at there)
 
     pub leaf_other : (get_or b at 0 ≡ 3 → ⊥) → (get_or b at 0 ≡ 2 → ⊥) → (get_or b at 0 ≡ 4 → ⊥) → Broken ≡ code_leaf s index u k b at
     unfolding code_leaf
@@ -167,27 +167,27 @@ module _ (s index u : List ℕ) (k : ℕ) (b : List ℕ) (at : ℕ) where
   code_end h = simp (le-leb (length b) at h)
 
   module _ (there : at < length b) where
-    pub code-name : {r : Node} → get_or b at 0 ≡ 1 → r ≡ name_at s index k b (at + 1) → r ≡ code_node s index u k b at
+    pub code_name : {r : Node} → get_or b at 0 ≡ 1 → r ≡ name_at s index k b (at + 1) → r ≡ code_node s index u k b at
     unfolding code_node
-    code-name h e = cc (lt-leb (length b) at there)
+    code_name h e = cc (lt-leb (length b) at there)
 
-    pub code-leaf : {r : Read} → (get_or b at 0 ≡ 1 → ⊥) → r ≡ code_leaf s index u k b at → Leaf r ≡ code_node s index u k b at
+    pub code_leaf_lem : {r : Read} → (get_or b at 0 ≡ 1 → ⊥) → r ≡ code_leaf s index u k b at → Leaf r ≡ code_node s index u k b at
     unfolding code_node
-    code-leaf h e = cc (lt-leb (length b) at there, ne_eqb (get_or b at 0) 1 h)
+    code_leaf_lem h e = cc (lt-leb (length b) at there, ne_eqb (get_or b at 0) 1 h)
 
     module _ (other : get_or b at 0 ≡ 1 → ⊥) where
       pub code_token : {r : Read} {j place : ℕ} → get_or b at 0 ≡ 2 → j ≡ k → place ≡ get_or index j 0 → r ≡ token_at s place b (at + 1)
           → Leaf r ≡ code_node s index u k b at
-      code_token h ej ei e = code-leaf other (leaf_token s index u k b at there h ej ei e)
+      code_token h ej ei e = code_leaf_lem other (leaf_token s index u k b at there h ej ei e)
 
-      pub code-argument : {r : Read} → get_or b at 0 ≡ 3 → r ≡ argument_at u k b (at + 1) → Leaf r ≡ code_node s index u k b at
-      code-argument h e = code-leaf other (leaf_argument s index u k b at there h e)
+      pub code_argument : {r : Read} → get_or b at 0 ≡ 3 → r ≡ argument_at u k b (at + 1) → Leaf r ≡ code_node s index u k b at
+      code_argument h e = code_leaf_lem other (leaf_argument s index u k b at there h e)
 
       pub code_numbered : {r : Read} → get_or b at 0 ≡ 4 → r ≡ numbered_at u k b (at + 1) → Leaf r ≡ code_node s index u k b at
-      code_numbered h e = code-leaf other (leaf-numbered s index u k b at there h e)
+      code_numbered h e = code_leaf_lem other (leaf_numbered s index u k b at there h e)
 
       pub code_other : (get_or b at 0 ≡ 3 → ⊥) → (get_or b at 0 ≡ 2 → ⊥) → (get_or b at 0 ≡ 4 → ⊥) → Leaf Broken ≡ code_node s index u k b at
-      code_other h i j = code-leaf other (leaf_other s index u k b at there h i j)
+      code_other h i j = code_leaf_lem other (leaf_other s index u k b at there h i j)
 
 -- node_at
 module _ (s index u : List ℕ) (k : ℕ) (b : List ℕ) (at : ℕ) {x : Syntax} {r : Node} where
@@ -213,13 +213,13 @@ module _ (f : ℕ → ℕ → Read) (s : List ℕ) (e q at : ℕ) where
     unfolding operands_from
     operands_next y = rw left (cc)
 
-    pub operands-deep : r ≡ Deep → operands_from f s (e - q) q at ≡ Deep
+    pub operands_deep : r ≡ Deep → operands_from f s (e - q) q at ≡ Deep
     unfolding operands_from
-    operands-deep y = rw left (cc)
+    operands_deep y = rw left (cc)
 
-    pub operands-broken : r ≡ Broken → operands_from f s (e - q) q at ≡ Broken
+    pub operands_broken : r ≡ Broken → operands_from f s (e - q) q at ≡ Broken
     unfolding operands_from
-    operands-broken y = rw left (cc)
+    operands_broken y = rw left (cc)
 
 -- An operand that is refused ends the row.
 pub operands_stop : (f : ℕ → ℕ → Read) (s : List ℕ) (e q at : ℕ) {r : Read} → q < e → r ≡ f (get_or s q 0) at → OneOf (1 ∷ 2 ∷ []) (tag_of the_type r)
@@ -229,8 +229,8 @@ operands_stop f s e q at {r} more er refused = go r er refused
     go : (r : Read) → r ≡ f (get_or s q 0) at → OneOf (1 ∷ 2 ∷ []) (tag_of the_type r) → r ≡ operands_from f s (e - q) q at
     go (End x) y (inl z) = absurd (omega arith)
     go (End x) y (inr z) = absurd (omega arith)
-    go Deep y z = sym (operands-deep f s e q at more y refl)
-    go Broken y z = sym (operands-broken f s e q at more y refl)
+    go Deep y z = sym (operands_deep f s e q at more y refl)
+    go Broken y z = sym (operands_broken f s e q at more y refl)
 
 -- The last operand alone.
 pub operands_last : (f : ℕ → ℕ → Read) (s : List ℕ) (e q at : ℕ) {r : Read} → q + 1 ≡ e → r ≡ f (get_or s q 0) at
@@ -267,14 +267,14 @@ module _ (s index : List ℕ) (k : ℕ) (b : List ℕ) (at : ℕ) where
   past_end h = simp (le-leb (length b) at h)
 
   module _ (there : at < length b) where
-    pub past-other : (get_or b at 0 ≡ 2 → ⊥) → Deep ≡ past_at Code s index k b at
+    pub past_other : (get_or b at 0 ≡ 2 → ⊥) → Deep ≡ past_at Code s index k b at
     unfolding past_at
-    past-other h = cc (lt-leb (length b) at there, ne_eqb (get_or b at 0) 2 h)
+    past_other h = cc (lt-leb (length b) at there, ne_eqb (get_or b at 0) 2 h)
 
-    pub past-sign : {r : Read} {j place : ℕ} → get_or b at 0 ≡ 2 → j ≡ k → place ≡ get_or index j 0 → r ≡ token_at s place b (at + 1)
+    pub past_sign : {r : Read} {j place : ℕ} → get_or b at 0 ≡ 2 → j ≡ k → place ≡ get_or index j 0 → r ≡ token_at s place b (at + 1)
         → r ≡ past_at Code s index k b at
     unfolding past_at
-    past-sign h ej ei e = cc (lt-leb (length b) at there)
+    past_sign h ej ei e = cc (lt-leb (length b) at there)
 
 -- past_levels
 module _ (s index : List ℕ) (k : ℕ) (b : List ℕ) (at : ℕ) {x : Syntax} {r : Read} where
@@ -294,14 +294,14 @@ module _ (x : Syntax) (s index u b : List ℕ) (n k at : ℕ) where
     one_less : n ≡ suc (n - 1)
     one_less = omega arith
 
-    pub read-leaf : {r : Read} → d ≡ Leaf r → r ≡ read_at x s index u b n k at
+    pub read_leaf : {r : Read} → d ≡ Leaf r → r ≡ read_at x s index u b n k at
     unfolding read_at
-    read-leaf y = rw one_less (cc)
+    read_leaf y = rw one_less (cc)
 
-    pub read-operands : {q e to : ℕ} → d ≡ Operands q e to
+    pub read_operands : {q e to : ℕ} → d ≡ Operands q e to
         → operands_from (read_at x s index u b (n - 1)) s (e - q) q to ≡ read_at x s index u b n k at
     unfolding read_at
-    read-operands {q} {e} {to} y =
+    read_operands {q} {e} {to} y =
         (let z : operands_from (read_at x s index u b (n - 1)) s (e - q) q to ≡ read_at x s index u b (suc (n - 1)) k at = cc in z)
         ∙ ap (λ (m : ℕ). read_at x s index u b m k at) (sym one_less)
 
@@ -327,7 +327,7 @@ module _ (x : Syntax) (s index u b : List ℕ) (n k at : ℕ) where
       let w = in_tree x index k (λ z. h (e ∙ z)) in
       by_test (eqb n 0)
       (λ z. read_past x s index u b n k at (eqb-true n 0 z) (past_tree s index k b at w.0 (past_token s index k b at refl (e ∙ w.1) h t)))
-      (λ z. read-leaf x s index u b n k at (eqb-false n 0 z) (node_tree s index u k b at w.0 (tree_token s index k b at refl (e ∙ w.1) h t)) refl)
+      (λ z. read_leaf x s index u b n k at (eqb-false n 0 z) (node_tree s index u k b at w.0 (tree_token s index k b at refl (e ∙ w.1) h t)) refl)
 
 -- leaf
 module _ (x : Syntax) (s index u b : List ℕ) (n k at : ℕ) where
@@ -340,7 +340,7 @@ module _ (x : Syntax) (s index u b : List ℕ) (n k at : ℕ) where
       (λ t.
       let there : at < length b = leb-false (length b) at t in
       let z : get_or index (production_key k (get_or b at 0)) 0 ≡ 0 = rw (lt-leb (length b) at there) at h in
-      tree_name s index k b at refl (sym e) refl (name-unknown s index k b at there refl refl (sym z) refl))
+      tree_name s index k b at refl (sym e) refl (name_unknown s index k b at there refl refl (sym z) refl))
 
   -- The same in a code.
   code_nothing : production_place Code index k b at ≡ 0 → Leaf (code_leaf s index u k b at) ≡ code_node s index u k b at
@@ -353,8 +353,8 @@ module _ (x : Syntax) (s index u b : List ℕ) (n k at : ℕ) where
       (λ t.
       let there : at < length b = leb-false (length b) at t in
       by_test (eqb (get_or b at 0) 1)
-      (λ d. let one : get_or b at 0 ≡ 1 = eqb-true _ _ d in ap Leaf (sym (leaf_other s index u k b at there (λ z. omega arith) (λ z. omega arith) (λ z. omega arith))) ∙ code-name s index u k b at there one (unknown there one h))
-      (λ d. code-leaf s index u k b at there (eqb-false _ _ d) refl))
+      (λ d. let one : get_or b at 0 ≡ 1 = eqb-true _ _ d in ap Leaf (sym (leaf_other s index u k b at there (λ z. omega arith) (λ z. omega arith) (λ z. omega arith))) ∙ code_name s index u k b at there one (unknown there one h))
+      (λ d. code_leaf_lem s index u k b at there (eqb-false _ _ d) refl))
     where
       unknown : at < length b → get_or b at 0 ≡ 1
           → cond (leb (length b) (at + 1)) 0 (cond (eqb (get_or b at 0) 1) (get_or index (production_key k (get_or b (at + 1) 0)) 0) 0) ≡ 0
@@ -365,7 +365,7 @@ module _ (x : Syntax) (s index u b : List ℕ) (n k at : ℕ) where
           (λ t.
           let inner : at + 1 < length b = leb-false _ _ t in
           let z : get_or index (production_key k (get_or b (at + 1) 0)) 0 ≡ 0 = rw (lt-leb (length b) (at + 1) inner, eq-eqb (get_or b at 0) 1 one) at h in
-          name-unknown s index k b (at + 1) inner refl refl (sym z) refl)
+          name_unknown s index k b (at + 1) inner refl refl (sym z) refl)
 
 -- name_place
 module _ (index : List ℕ) (k : ℕ) (b : List ℕ) (at : ℕ) where
@@ -384,23 +384,23 @@ module _ (x : Syntax) (index : List ℕ) (k : ℕ) (b : List ℕ) (at class : �
   place_class h = simp (ne_eqb class 0 h)
 
   module _ (none : class ≡ 0) where
-    pub place-in-tree : {r : ℕ} → x ≡ Tree → r ≡ production_place Tree index k b at → r ≡ cond (eqb class 0) (production_place x index k b at) 0
-    place-in-tree h e = cc (eq-eqb class 0 none)
+    pub place_in_tree : {r : ℕ} → x ≡ Tree → r ≡ production_place Tree index k b at → r ≡ cond (eqb class 0) (production_place x index k b at) 0
+    place_in_tree h e = cc (eq-eqb class 0 none)
 
     pub place_short : x ≡ Code → length b - at < 2 → 0 ≡ cond (eqb class 0) (production_place x index k b at) 0
     unfolding production_place
     place_short h i = let j : length b ≤ at + 1 = omega arith in cc (eq-eqb class 0 none, le-leb (length b) (at + 1) j)
 
-    pub place-sign : x ≡ Code → 2 ≤ length b - at → (get_or b at 0 ≡ 1 → ⊥) → 0 ≡ cond (eqb class 0) (production_place x index k b at) 0
+    pub place_sign : x ≡ Code → 2 ≤ length b - at → (get_or b at 0 ≡ 1 → ⊥) → 0 ≡ cond (eqb class 0) (production_place x index k b at) 0
     unfolding production_place
-    place-sign h i j =
+    place_sign h i j =
         let l : at + 1 < length b = omega arith in
         cc (eq-eqb class 0 none, lt-leb (length b) (at + 1) l, ne_eqb (get_or b at 0) 1 j)
 
-    pub place-in-code : {r : ℕ} → x ≡ Code → 2 ≤ length b - at → get_or b at 0 ≡ 1 → r ≡ production_place Tree index k b (at + 1)
+    pub place_in_code : {r : ℕ} → x ≡ Code → 2 ≤ length b - at → get_or b at 0 ≡ 1 → r ≡ production_place Tree index k b (at + 1)
         → r ≡ cond (eqb class 0) (production_place x index k b at) 0
     unfolding production_place
-    place-in-code h i j e =
+    place_in_code h i j e =
         let l : at + 1 < length b = omega arith in cc (eq-eqb class 0 none, lt-leb (length b) (at + 1) l)
 
 -- leaf_at
@@ -427,7 +427,7 @@ module _ (x : Syntax) (s index u b : List ℕ) (n k at : ℕ) where
 
   pub leaf_read : {r : Read} {class : ℕ} → (n ≡ 0 → ⊥) → r ≡ leaf_at x s index u k b at → class ≡ class_place x index k → class ≡ 0
       → production_place x index k b at ≡ 0 → r ≡ read_at x s index u b n k at
-  leaf_read pos y e z h = read-leaf x s index u b n k at pos (nothing_node (sym e ∙ z) h y) refl
+  leaf_read pos y e z h = read_leaf x s index u b n k at pos (nothing_node (sym e ∙ z) h y) refl
 
 -- No production was found.
 pub none_found : (x : Syntax) (index : List ℕ) (k : ℕ) (b : List ℕ) (at : ℕ) {class place : ℕ} → class ≡ 0
@@ -462,8 +462,8 @@ module _ (index s : List ℕ) (z : Sound index s) {j k : ℕ} (ej : j ≡ k) (ki
     pub kinds_in : {n : ℕ} → n ≡ pair_at s place → KindsIn s (place + 4) (place + 2 + n)
     kinds_in en = rw (en, e) (z.operands j p in_kinds byte there)
 
-    pub kinds-from : {first last : ℕ} → first ≡ place + 4 → last ≡ place + 2 + pair_at s place → KindsIn s first last
-    kinds-from f l = rw (f, l) (kinds_in refl)
+    pub kinds_from : {first last : ℕ} → first ≡ place + 4 → last ≡ place + 2 + pair_at s place → KindsIn s first last
+    kinds_from f l = rw (f, l) (kinds_in refl)
 
 -- The class of a token of a tree stands in the language.
 pub class_at : (x : Syntax) (s index : List ℕ) {place k : ℕ} → Sound index s → k < 32 → place ≡ class_place x index k → (place ≡ 0 → ⊥)
@@ -514,7 +514,7 @@ past_named Code s index k b at place none e pos =
     let l = leb-false (length b) (at + 1) t in
     let m : at < length b = omega arith in
     let one = eqb-true (get_or b at 0) 1 u in
-    past-other s index k b at m (λ w. omega (arith, one, w)))
+    past_other s index k b at m (λ w. omega (arith, one, w)))
     (λ u. absurd (pos (cc))))
 
 module _ (x : Syntax) (s index u : List ℕ) (k : ℕ) (b : List ℕ) (at : ℕ) {class place : ℕ} (ec : class ≡ class_place x index k) (ep : place ≡ cond (eqb class 0) (production_place x index k b at) 0) (pos : place ≡ 0 → ⊥) where
@@ -540,8 +540,8 @@ module _ (x : Syntax) (s index u : List ℕ) (k : ℕ) (b : List ℕ) (at : ℕ)
     pub named_in : (place + 4 ≤ length s) × (length s ≤ 1024)
     named_in = name_in index s z refl kind (bytes named.name) named.found pos
 
-    pub named-kinds : {first last : ℕ} → first ≡ place + 4 → last ≡ place + 2 + pair_at s place → KindsIn s first last
-    named-kinds = kinds-from index s z refl kind (bytes named.name) named.found pos
+    pub named_kinds : {first last : ℕ} → first ≡ place + 4 → last ≡ place + 2 + pair_at s place → KindsIn s first last
+    named_kinds = kinds_from index s z refl kind (bytes named.name) named.found pos
 
   pub named_end : {m : ℕ} → m ≡ name_length x → at + m ≤ length b
   named_end d = omega (arith, named.next, named.inside)

@@ -201,8 +201,8 @@ module _ (u : List ℕ) (k : ℕ) (b : List ℕ) (at : ℕ) (bytes : (i : ℕ) �
   unfolding use_of
   numbered_in h z =
       by_test (argument_is u k (get_or b at 0) (get_or b (at + 1) 0))
-      (λ d. cc (Laws.numbered-good u k b at h refl refl z (is_itself at) d, is_same u k (get_or b at 0) (get_or b (at + 1) 0) (bytes (at + 1))))
-      (λ d. cc (Laws.numbered-bad u k b at h refl refl z (is_itself at) d, is_same u k (get_or b at 0) (get_or b (at + 1) 0) (bytes (at + 1))))
+      (λ d. cc (Laws.numbered_good u k b at h refl refl z (is_itself at) d, is_same u k (get_or b at 0) (get_or b (at + 1) 0) (bytes (at + 1))))
+      (λ d. cc (Laws.numbered_bad u k b at h refl refl z (is_itself at) d, is_same u k (get_or b at 0) (get_or b (at + 1) 0) (bytes (at + 1))))
 
   numbered_there : 2 ≤ length b - at → rest_at b (numbered_at u k b at) ≡ rest_of (read_numbered (uses_in u) k (drop at b))
   numbered_there h =
@@ -305,11 +305,11 @@ module _ (s index u b : List ℕ) (l : Language) (z : Indexed index s l) (bytes 
       unfolding read_code_level read_use
       code_in =
           by_test (eqb (get_or b at 0) 1)
-          (λ d. cc (Laws.code-name s index u k b at there (eqb-true _ _ d) refl, name_same k (at + 1) kind))
+          (λ d. cc (Laws.code_name s index u k b at there (eqb-true _ _ d) refl, name_same k (at + 1) kind))
           (λ d. by_test (eqb (get_or b at 0) 2)
           (λ e. cc (Laws.code_token s index u k b at there (eqb-false _ _ d) (eqb-true _ _ e) refl refl refl, token_same s (get_or index k 0) b (at + 1), z.range k kind))
           (λ e. by_test (eqb (get_or b at 0) 3)
-          (λ c. cc (Laws.code-argument s index u k b at there (eqb-false _ _ d) (eqb-true _ _ c) refl, argument_same u k b (at + 1)))
+          (λ c. cc (Laws.code_argument s index u k b at there (eqb-false _ _ d) (eqb-true _ _ c) refl, argument_same u k b (at + 1)))
           (λ c. by_test (eqb (get_or b at 0) 4)
           (λ g. cc (Laws.code_numbered s index u k b at there (eqb-false _ _ d) (eqb-true _ _ g) refl, numbered_same u k b (at + 1) bytes))
           (λ g. cc (Laws.code_other s index u k b at there (eqb-false _ _ d) (eqb-false _ _ c) (eqb-false _ _ e) (eqb-false _ _ g))))))
@@ -343,8 +343,8 @@ module _ (s index b : List ℕ) (l : Language) (z : Indexed index s l) where
       (λ e.
       let there : at < length b = leb-false _ _ e in
       rw (front b at there) (by_test (eqb (get_or b at 0) 2)
-      (λ d. cc (Laws.past-sign s index k b at there (eqb-true _ _ d) refl refl refl, token_same s (get_or index k 0) b (at + 1), z.range k kind))
-      (λ d. cc (Laws.past-other s index k b at there (eqb-false _ _ d)))))
+      (λ d. cc (Laws.past_sign s index k b at there (eqb-true _ _ d) refl refl refl, token_same s (get_or index k 0) b (at + 1), z.range k kind))
+      (λ d. cc (Laws.past_other s index k b at there (eqb-false _ _ d)))))
 
   past_same : (x : Syntax) (k at : ℕ) → k < 32 → rest_at b (past_at x s index k b at) ≡ rest_of (past_levels current (syntax_of x) l k (drop at b))
   past_same Tree k at h = past_tree (get_or index k 0) k at refl h

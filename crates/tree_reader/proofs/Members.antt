@@ -30,8 +30,8 @@ module _ (s : List ℕ) (q e k : ℕ) (x : Bool) (inv : any (λ a. eqb a k) (sli
   among_done h = part_done (any λ a. eqb a k) s q e x inv h
 
   module _ (fits : e ≤ length s) (here : q < e) where
-    pub among-stop : get_or s q 0 ≡ k → true ≡ x
-    among-stop h = any_stop (λ a. eqb a k) (get_or s q 0) _ (part_next (any λ a. eqb a k) s q e x inv here fits) (eq-eqb _ _ h)
+    pub among_stop : get_or s q 0 ≡ k → true ≡ x
+    among_stop h = any_stop (λ a. eqb a k) (get_or s q 0) _ (part_next (any λ a. eqb a k) s q e x inv here fits) (eq-eqb _ _ h)
 
     pub among_next : (get_or s q 0 ≡ k → ⊥) → any (λ a. eqb a k) (slice (q + 1) e s) ≡ x
     among_next h = any_next (λ a. eqb a k) (get_or s q 0) _ (part_next (any λ a. eqb a k) s q e x inv here fits) (ne_eqb _ _ h)
@@ -44,14 +44,14 @@ module _ (s : List ℕ) (k p : ℕ) where
       by_test (eqb (get_or s p 0) 0x11) (λ e. cc (eq-eqb _ _ h)) (λ e. cc (eq-eqb _ _ h))
 
   module _ (other : get_or s (p + 3) 0 ≡ k → ⊥) where
-    pub mentions-class : get_or s p 0 ≡ 0x11 → false ≡ mentions_at s k p
+    pub mentions_class : get_or s p 0 ≡ 0x11 → false ≡ mentions_at s k p
     unfolding mentions_at entry_at mentions
-    mentions-class h = cc (eq-eqb _ _ h, ne_eqb _ _ other)
+    mentions_class h = cc (eq-eqb _ _ h, ne_eqb _ _ other)
 
-    pub mentions-production : {e : ℕ} {r : Bool} → (get_or s p 0 ≡ 0x11 → ⊥) → e ≡ field_end s p → r ≡ any (λ a. eqb a k) (slice (p + 5) e s)
+    pub mentions_production : {e : ℕ} {r : Bool} → (get_or s p 0 ≡ 0x11 → ⊥) → e ≡ field_end s p → r ≡ any (λ a. eqb a k) (slice (p + 5) e s)
         → r ≡ mentions_at s k p
     unfolding mentions_at entry_at mentions
-    mentions-production h ee er = cc (ne_eqb _ _ h, ne_eqb _ _ other)
+    mentions_production h ee er = cc (ne_eqb _ _ h, ne_eqb _ _ other)
 
 -- is_in
 module _ (s : List ℕ) (k p : ℕ) (x : Bool) (inv : any (mentions_at s k) (places_from s p) ≡ x) (whole : all (entry_whole s) (places_from s p) ≡ true) where
@@ -63,17 +63,17 @@ module _ (s : List ℕ) (k p : ℕ) (x : Bool) (inv : any (mentions_at s k) (pla
     entries : (entry_whole s p ≡ true) × (all (entry_whole s) (places_from s e) ≡ true)
     entries = all_true (entry_whole s) p (places_from s e) (pass_next (all (entry_whole s)) s p true whole e here ee)
 
-    pub in-fits : (p + 3 < length s) × (e ≡ field_end s p) × (e ≤ length s)
+    pub in_fits : (p + 3 < length s) × (e ≡ field_end s p) × (e ≤ length s)
     unfolding field_end
-    in-fits =
+    in_fits =
         ⊎_elim
         (λ w. let f = w.fits in let n = class_long s p w in (omega arith, ee, omega arith))
         (λ w. let f = w.fits in let n = w.two in (omega arith, ee, omega arith))
         (entry_facts s p entries.0)
 
     module _ {r : Bool} (er : r ≡ mentions_at s k p) where
-      pub in-stop : r ≡ true → true ≡ x
-      in-stop h = any_stop (mentions_at s k) p _ (pass_next (any (mentions_at s k)) s p x inv e here ee) (sym er ∙ h)
+      pub in_stop : r ≡ true → true ≡ x
+      in_stop h = any_stop (mentions_at s k) p _ (pass_next (any (mentions_at s k)) s p x inv e here ee) (sym er ∙ h)
 
       pub in_next : r ≡ false → (any (mentions_at s k) (places_from s e) ≡ x) × (all (entry_whole s) (places_from s e) ≡ true)
       in_next h =

@@ -140,32 +140,32 @@ module _ (t : ℕ) (s : List ℕ) (ok : ℕ → Bool) (First Second Other : ℕ 
   module _ {E B : Type 0} (at : ℕ → E) (look : E → Option B) (through : ℕ → Option B) (empty : through 0 ≡ none)
       (value : ℕ → B) (here : (p : ℕ) → through (p + 1) ≡ some (value p)) (k : ℕ) (kind : k < 32) where
     -- A lookup by kind.
-    module _ (in-first : (p : ℕ) → First p → look (at p) ≡ cond (eqb (get_or s (p + 3) 0) k) (some (value p)) none)
+    module _ (in_first : (p : ℕ) → First p → look (at p) ≡ cond (eqb (get_or s (p + 3) 0) k) (some (value p)) none)
         (in-second : (p : ℕ) → Second p → look (at p) ≡ none) (in-other : (p : ℕ) → Other p → look (at p) ≡ none) where
-      kind-hit : (p : ℕ) → ok p ≡ true → slot_at t s p ≡ k → (b : B) × (look (at p) ≡ some b) × (through (p + 1) ≡ some b)
-      kind-hit p w e =
+      kind_hit : (p : ℕ) → ok p ≡ true → slot_at t s p ≡ k → (b : B) × (look (at p) ≡ some b) × (through (p + 1) ≡ some b)
+      kind_hit p w e =
           let c = of_first p w (omega arith) in
           let j : get_or s (p + 3) 0 ≡ k = sym (g.kind_key p c) ∙ e in
-          (value p, cc (in-first p c, eq-eqb _ _ j), here p)
+          (value p, cc (in_first p c, eq-eqb _ _ j), here p)
 
-      kind-miss : (p : ℕ) → ok p ≡ true → (slot_at t s p ≡ k → ⊥) → look (at p) ≡ none
-      kind-miss p w n =
+      kind_miss : (p : ℕ) → ok p ≡ true → (slot_at t s p ≡ k → ⊥) → look (at p) ≡ none
+      kind_miss p w n =
           ⊎_elim
-          (λ c. cc (in-first p c, ne_eqb (get_or s (p + 3) 0) k (λ d. n (g.kind_key p c ∙ d))))
+          (λ c. cc (in_first p c, ne_eqb (get_or s (p + 3) 0) k (λ d. n (g.kind_key p c ∙ d))))
           (⊎_elim (in-second p) (in-other p))
           (g.facts p w)
 
-      pub looked-kind : (l : List ℕ) → all ok l ≡ true → first look (map at l) ≡ through (place_of t s k l)
-      looked-kind = looked t ok at look through empty s k kind-hit kind-miss
+      pub looked_kind : (l : List ℕ) → all ok l ≡ true → first look (map at l) ≡ through (place_of t s k l)
+      looked_kind = looked t ok at look through empty s k kind_hit kind_miss
 
     -- A lookup by kind and name.
-    module _ (n : ℕ) (byte : n < 256) (bytes : (i : ℕ) → get_or s i 0 < 256) (in-first : (p : ℕ) → First p → look (at p) ≡ none)
+    module _ (n : ℕ) (byte : n < 256) (bytes : (i : ℕ) → get_or s i 0 < 256) (in_first : (p : ℕ) → First p → look (at p) ≡ none)
         (in-second : (p : ℕ) → Second p
         → look (at p) ≡ cond (eqb (get_or s (p + 3) 0) k && eqb (get_or s (p + 4) 0) n) (some (value p)) none)
         (in-other : (p : ℕ) → Other p → look (at p) ≡ none) where
-      name-hit : (p : ℕ) → ok p ≡ true → slot_at t s p ≡ production_key k n
+      name_hit : (p : ℕ) → ok p ≡ true → slot_at t s p ≡ production_key k n
           → (b : B) × (look (at p) ≡ some b) × (through (p + 1) ≡ some b)
-      name-hit p w e =
+      name_hit p w e =
           let c = of_second p w (omega arith) (omega arith) in
           let d : production_key (get_or s (p + 3) 0) (get_or s (p + 4) 0) ≡ production_key k n = sym (g.name_key p c) ∙ e in
           let b = bytes (p + 4) in
@@ -173,10 +173,10 @@ module _ (t : ℕ) (s : List ℕ) (ok : ℕ → Bool) (First Second Other : ℕ 
           let j : get_or s (p + 4) 0 ≡ n = omega arith in
           (value p, cc (in-second p c, eq-eqb _ _ i, eq-eqb _ _ j), here p)
 
-      name-miss : (p : ℕ) → ok p ≡ true → (slot_at t s p ≡ production_key k n → ⊥) → look (at p) ≡ none
-      name-miss p w m =
+      name_miss : (p : ℕ) → ok p ≡ true → (slot_at t s p ≡ production_key k n → ⊥) → look (at p) ≡ none
+      name_miss p w m =
           ⊎_elim
-          (in-first p)
+          (in_first p)
           (⊎_elim (λ c. by_test (eqb (get_or s (p + 3) 0) k)
           (λ d. by_test (eqb (get_or s (p + 4) 0) n)
           (λ e.
@@ -187,5 +187,5 @@ module _ (t : ℕ) (s : List ℕ) (ok : ℕ → Bool) (First Second Other : ℕ 
           (λ d. cc (in-second p c))) (in-other p))
           (g.facts p w)
 
-      pub looked-name : (l : List ℕ) → all ok l ≡ true → first look (map at l) ≡ through (place_of t s (production_key k n) l)
-      looked-name = looked t ok at look through empty s (production_key k n) name-hit name-miss
+      pub looked_name : (l : List ℕ) → all ok l ≡ true → first look (map at l) ≡ through (place_of t s (production_key k n) l)
+      looked_name = looked t ok at look through empty s (production_key k n) name_hit name_miss

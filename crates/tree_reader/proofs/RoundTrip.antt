@@ -9,7 +9,7 @@ use borrow.Author.Tests.{eq-eqb}
 use Rattle.format_fields.proofs.Truth.{none_some}
 use Rattle.format_language.specs.Language.{Language, Range, range_of, arguments_of, in_range}
 use Rattle.tree_reader.specs.Code.{Code, node, token, argument, Codes, levels, levels_all}
-use Rattle.tree_reader.specs.Typing.{Uses, kind_at, Typed, TypedAll, typed-node, typed-token, typed-argument, typed-nil, typed-cons}
+use Rattle.tree_reader.specs.Typing.{Uses, kind_at, Typed, TypedAll, typed_node, typed_token, typed_argument, typed_nil, typed_cons}
 use Rattle.tree_reader.specs.Syntax.{Syntax, tree, code, sign, write, write_all, Read, done, broken, read_all, read_operands, read_node, read_token, use_of, read_argument, read_numbered, read_use, read_tree_level, read_code_level, read_level, current, past_levels, read_by, read}
 
 -- A kind that has productions is no class.
@@ -74,21 +74,21 @@ module _ (l : Language) (apart : Apart l) where
     -- Reading what was written gives the same code.
     pub round : {x : Syntax} {uses : Uses} {a : Code} {k : ℕ} → Typed l uses a k → Written x uses → (n : ℕ) (r : List ℕ) → levels a ≤ n
         → read x l uses n k (write x a ++ r) ≡ done a r
-    round (typed-node e h) w zero r d = absurd (omega arith)
-    round {x} (typed-token {v = v} {k = k} {c = c} e h) w zero r d =
+    round (typed_node e h) w zero r d = absurd (omega arith)
+    round {x} (typed_token {v = v} {k = k} {c = c} e h) w zero r d =
         rw (sign_append x 2 (v / 256 ∷ v % 256 ∷ []) r, token_past (λ j s. broken) l w k c (v / 256 ∷ v % 256 ∷ r) e)
         (token_done (λ j s. broken) l c v r h)
-    round (typed-argument e) w zero r d = absurd (omega arith)
-    round {x} {uses} (typed-node {k = k} {p = p} {t = t} {ks = ks} e h) w (suc n) r d =
+    round (typed_argument e) w zero r d = absurd (omega arith)
+    round {x} {uses} (typed_node {k = k} {p = p} {t = t} {ks = ks} e h) w (suc n) r d =
         rw (sign_append x 1 (p ∷ write_all x t) r, node_level (read x l uses n) l w k p (write_all x t ++ r) (apart k p ks e))
-        (node_done (read x l uses n) l k p ks (write_all x t ++ r) r t e (roundAll h w n r (omega arith)))
-    round {x} {uses} (typed-token {v = v} {k = k} {c = c} e h) w (suc n) r d =
+        (node_done (read x l uses n) l k p ks (write_all x t ++ r) r t e (round_all h w n r (omega arith)))
+    round {x} {uses} (typed_token {v = v} {k = k} {c = c} e h) w (suc n) r d =
         rw (sign_append x 2 (v / 256 ∷ v % 256 ∷ []) r, token_level (read x l uses n) l w k c (v / 256 ∷ v % 256 ∷ r) e)
         (token_done (read x l uses n) l c v r h)
-    round {x} {uses} (typed-argument {i = i} {j = j} {k = k} e) w (suc n) r d = argument_level (read x l uses n) l w k i j r e
+    round {x} {uses} (typed_argument {i = i} {j = j} {k = k} e) w (suc n) r d = argument_level (read x l uses n) l w k i j r e
 
-    pub roundAll : {x : Syntax} {uses : Uses} {t : Codes} {ks : List ℕ} → TypedAll l uses t ks → Written x uses → (n : ℕ) (r : List ℕ) → levels_all t ≤ n
+    pub round_all : {x : Syntax} {uses : Uses} {t : Codes} {ks : List ℕ} → TypedAll l uses t ks → Written x uses → (n : ℕ) (r : List ℕ) → levels_all t ≤ n
         → read_all (read x l uses n) ks (write_all x t ++ r) ≡ done t r
-    roundAll typed-nil w n r d = refl
-    roundAll {x} {uses} (typed-cons {a = a} {t = t} h hs) w n r d =
-        rw (append_assoc, round h w n (write_all x t ++ r) (omega arith), roundAll hs w n r (omega arith))
+    round_all typed_nil w n r d = refl
+    round_all {x} {uses} (typed_cons {a = a} {t = t} h hs) w n r d =
+        rw (append_assoc, round h w n (write_all x t ++ r) (omega arith), round_all hs w n r (omega arith))

@@ -13,7 +13,7 @@ use Rattle.format_fields.proofs.Truth.{false_true, by_test}
 use Rattle.format_fields.proofs.Codec.{Bytes}
 use Rattle.format_language.specs.Language.{Language, Range, range_of, arguments_of, in_range}
 use Rattle.tree_reader.specs.Code.{Code, node, token, argument, Codes, cons, levels, levels_all}
-use Rattle.tree_reader.specs.Typing.{Uses, kind_at, Typed, TypedAll, typed-node, typed-token, typed-argument, typed-nil, typed-cons}
+use Rattle.tree_reader.specs.Typing.{Uses, kind_at, Typed, TypedAll, typed_node, typed_token, typed_argument, typed_nil, typed_cons}
 use Rattle.tree_reader.specs.Syntax.{Syntax, tree, code, sign, write, write_all, Read, done, deep, broken, and_then, read_all, read_operands, read_node, read_token, is_the, use_of, read_argument, read_numbered, read_use, read_tree_level, read_code_level, read_level, earlier, current, past_levels, read_by, read}
 
 -- The bytes were consumed: they are what the code is written as, and the rest.
@@ -48,7 +48,7 @@ module _ (x : Syntax) (l : Language) (uses : Uses) (n : ℕ) where
       → Right x l uses n k (sign x 2 ++ a ∷ b ∷ s) (elim t [ true ↦ done (token (a * 256 + b)) s | false ↦ broken ])
   unfolding levels write
   token_in k c a b s e true q =
-      (typed-token e q, omega arith, consumed_signed x 2 (a ∷ b ∷ s) ((a * 256 + b) / 256 ∷ (a * 256 + b) % 256 ∷ []) s eats)
+      (typed_token e q, omega arith, consumed_signed x 2 (a ∷ b ∷ s) ((a * 256 + b) / 256 ∷ (a * 256 + b) % 256 ∷ []) s eats)
     where
       eats : Consumed (a ∷ b ∷ s) ((a * 256 + b) / 256 ∷ (a * 256 + b) % 256 ∷ []) s
       eats h =
@@ -70,7 +70,7 @@ module _ (x : Syntax) (l : Language) (uses : Uses) (n : ℕ) (reads : ℕ → Li
       → RightAll x l uses n (k ∷ ks) s (and_then o λ t u. done (cons a t) u)
   unfolding levels write
   cons_right a k ks s r (done t u) h g =
-      (typed-cons h.0 g.0, omega (arith, h.1, g.1), consumed_next s r u (write x a) (write_all x t) h.2 g.2)
+      (typed_cons h.0 g.0, omega (arith, h.1, g.1), consumed_next s r u (write x a) (write_all x t) h.2 g.2)
   cons_right a k ks s r deep h g = tt
   cons_right a k ks s r broken h g = tt
 
@@ -83,7 +83,7 @@ module _ (x : Syntax) (l : Language) (uses : Uses) (n : ℕ) (reads : ℕ → Li
 
   all_right : (ks s : List ℕ) → RightAll x l uses n ks s (read_all reads ks s)
   unfolding read_all levels write
-  all_right [] s = (typed-nil, omega arith, λ b. (refl, b))
+  all_right [] s = (typed_nil, omega arith, λ b. (refl, b))
   all_right (k ∷ ks) s = next_right k ks s (reads k s) (right k s) (λ r. all_right ks r)
 
   -- A node behind its sign.
@@ -91,7 +91,7 @@ module _ (x : Syntax) (l : Language) (uses : Uses) (n : ℕ) (reads : ℕ → Li
       → Right x l uses (suc n) k (sign x 1 ++ p ∷ s) (and_then o λ t r. done (node k p t) r)
   unfolding levels write
   operands_right k p ks s (done t r) e g =
-      (typed-node e g.0, omega (arith, g.1), consumed_signed x 1 (p ∷ s) (p ∷ write_all x t) r (consumed_sign p s (write_all x t) r g.2))
+      (typed_node e g.0, omega (arith, g.1), consumed_signed x 1 (p ∷ s) (p ∷ write_all x t) r (consumed_sign p s (write_all x t) r g.2))
   operands_right k p ks s deep e g = tt
   operands_right k p ks s broken e g = tt
 
@@ -114,7 +114,7 @@ use_in : (l : Language) (uses : Uses) (n k i j : ℕ) (s f : List ℕ) (t : Bool
     → Consumed f (write code (argument i j)) s
     → Right code l uses (suc n) k f (elim t [ true ↦ done (argument i j) s | false ↦ broken ])
 unfolding levels
-use_in l uses n k i j s f true q e = (typed-argument (is_the_lem k (kind_at uses i j) q), omega arith, e)
+use_in l uses n k i j s f true q e = (typed_argument (is_the_lem k (kind_at uses i j) q), omega arith, e)
 use_in l uses n k i j s f false q e = tt
 
 use_right : (l : Language) (uses : Uses) (n k i j : ℕ) (s f : List ℕ) → Consumed f (write code (argument i j)) s

@@ -23,12 +23,12 @@ kind_at uses (suc i) j = kind_by (get_elem? uses i) j
 -- A code over language l is of a kind, with the given uses of arguments.
 mutual
   pub data Typed (l : Language) (uses : Uses) : Code → ℕ → Type 0 where
-    typed-node : {k p : ℕ} {t : Codes} {ks : List ℕ} → arguments_of l k p ≡ some ks → TypedAll l uses t ks
+    typed_node : {k p : ℕ} {t : Codes} {ks : List ℕ} → arguments_of l k p ≡ some ks → TypedAll l uses t ks
         → Typed l uses (node k p t) k
-    typed-token : {v k : ℕ} {c : Range} → range_of l k ≡ some c → in_range c v ≡ true → Typed l uses (token v) k
-    typed-argument : {i j k : ℕ} → kind_at uses i j ≡ some k → Typed l uses (argument i j) k
+    typed_token : {v k : ℕ} {c : Range} → range_of l k ≡ some c → in_range c v ≡ true → Typed l uses (token v) k
+    typed_argument : {i j k : ℕ} → kind_at uses i j ≡ some k → Typed l uses (argument i j) k
 
   pub data TypedAll (l : Language) (uses : Uses) : Codes → List ℕ → Type 0 where
-    typed-nil : TypedAll l uses nil []
-    typed-cons : {a : Code} {k : ℕ} {t : Codes} {ks : List ℕ} → Typed l uses a k → TypedAll l uses t ks
+    typed_nil : TypedAll l uses nil []
+    typed_cons : {a : Code} {k : ℕ} {t : Codes} {ks : List ℕ} → Typed l uses a k → TypedAll l uses t ks
         → TypedAll l uses (cons a t) (k ∷ ks)

@@ -92,8 +92,8 @@ module _ (s index : List ℕ) (k : ℕ) (b o : List ℕ) {x : Measured} (first :
       whole : (l : Language) (z : Indexed index s l) → read tree l [] tree_levels k b ≡ done (found l z).0 []
       whole l z = (found l z).1 ∙ ap (done (found l z).0) (drop_of_length-le b {i = e} (omega arith))
 
-      pub tree-long : {out : Outcome} → length o < m → out ≡ Refused Why.OutputTooShort → GivesTree s index k b o o out
-      tree-long h i l z =
+      pub tree_long : {out : Outcome} → length o < m → out ≡ Refused Why.OutputTooShort → GivesTree s index k b o o out
+      tree_long h i l z =
           let f = ((first l z).found e m ex).2 in
           let g = ap length (found l z).2 in
           let n : length o < length (export l k (found l z).0) =

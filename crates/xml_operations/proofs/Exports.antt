@@ -16,7 +16,7 @@ use Rattle.tree_reader.specs.Code.{Code, Codes, nil, cons}
 use Rattle.tree_reader.specs.Syntax.{done, tree, read_all, read}
 use Rattle.tree_reader.specs.Inner.Positions.{production_place}
 use Rattle.tree_reader.specs.declared.node.Syntax.TheVariants.{Tree}
-use Rattle.check_operations.proofs.Reading.{ReadToken, ReadNode, read_token_lem, read-deep, read-production, at_name, same_done, then_done}
+use Rattle.check_operations.proofs.Reading.{ReadToken, ReadNode, read_token_lem, read_deep, read_production, at_name, same_done, then_done}
 use Rattle.format_fields.specs.Decimal.{decimal}
 use Rattle.xml_text.specs.Text.{node_tag, token_tag, open_node, close_node, open_token, close_token, export, export_all}
 use Rattle.xml_operations.specs.Inner.Exporting.{TreeAsks, TreesAsk, Exported}
@@ -56,10 +56,10 @@ module _ (kinds s index : List ℕ) (from stop : ℕ) (b : List ℕ) (at levels 
   }
 
   module _ {o₁ : List ℕ} {q to m : ℕ} (goes : Goes kinds s index from stop b at levels o n o₁ q to m) where
-    pub goes-done : stop ≤ q → to ≤ length b → (l : Language) (t : Codes) (rest : List ℕ) → TreesAsk kinds s index from stop b at levels (length o) n l t rest
+    pub goes_done : stop ≤ q → to ≤ length b → (l : Language) (t : Codes) (rest : List ℕ) → TreesAsk kinds s index from stop b at levels (length o) n l t rest
         → Exported (export_all l (slice from stop kinds) t) b rest o o₁ n to m
     unfolding read_all
-    goes-done h i l t rest a =
+    goes_done h i l t rest a =
         let g = goes l t rest a in
         let no : slice q stop kinds ≡ [] = sym (part_done (λ u. u) kinds q stop (slice q stop kinds) refl h) in
         let r : done nil (drop to b) ≡ done g.operands rest = ap (λ (ks : List ℕ). read_all (read tree l [] levels) ks (drop to b)) (sym no) ∙ g.asks.reads in
@@ -71,8 +71,8 @@ module _ (kinds s index : List ℕ) (from stop : ℕ) (b : List ℕ) (at levels 
 
     module _ {k : ℕ} (ek : k ≡ get_or kinds q 0) (more : q < stop) (there : stop ≤ length kinds) (long₁ : length o₁ ≡ length o)
         {l : Language} {t : Codes} {rest : List ℕ} (a : TreesAsk kinds s index from stop b at levels (length o) n l t rest) where
-      pub now-is : Going kinds s index from stop b levels o n l t rest o₁ q to m
-      now-is = goes l t rest a
+      pub now_is : Going kinds s index from stop b levels o n l t rest o₁ q to m
+      now_is = goes l t rest a
 
       next_is : slice q stop kinds ≡ k ∷ slice (q + 1) stop kinds
       next_is = sym (part_next (λ u. u) kinds q stop (slice q stop kinds) refl more there) ∙ ap (λ (j : ℕ). j ∷ slice (q + 1) stop kinds) (sym ek)
@@ -84,34 +84,34 @@ module _ (kinds s index : List ℕ) (from stop : ℕ) (b : List ℕ) (at levels 
         pub others : Codes
         pub reads : read tree l [] levels k (drop to b) ≡ done first behind
         pub rests : read_all (read tree l [] levels) (slice (q + 1) stop kinds) behind ≡ done others rest
-        pub parts : export_all l (slice q stop kinds) now-is.operands ≡ export l k first ++ export_all l (slice (q + 1) stop kinds) others
+        pub parts : export_all l (slice q stop kinds) now_is.operands ≡ export l k first ++ export_all l (slice (q + 1) stop kinds) others
 
       pub next : Next
       unfolding read_all
       next =
-          let r : read_all (read tree l [] levels) (k ∷ slice (q + 1) stop kinds) (drop to b) ≡ done now-is.operands rest =
-          ap (λ (ks : List ℕ). read_all (read tree l [] levels) ks (drop to b)) (sym next_is) ∙ now-is.asks.reads in
-          let x = then_done (read tree l [] levels k (drop to b)) _ now-is.operands rest r in
-          let z = then_done (read_all (read tree l [] levels) (slice (q + 1) stop kinds) x.1) _ now-is.operands rest x.3 in
-          let w = same_done (cons x.0 z.0) now-is.operands z.1 rest z.3 in
+          let r : read_all (read tree l [] levels) (k ∷ slice (q + 1) stop kinds) (drop to b) ≡ done now_is.operands rest =
+          ap (λ (ks : List ℕ). read_all (read tree l [] levels) ks (drop to b)) (sym next_is) ∙ now_is.asks.reads in
+          let x = then_done (read tree l [] levels k (drop to b)) _ now_is.operands rest r in
+          let z = then_done (read_all (read tree l [] levels) (slice (q + 1) stop kinds) x.1) _ now_is.operands rest x.3 in
+          let w = same_done (cons x.0 z.0) now_is.operands z.1 rest z.3 in
           record {
             first = x.0;
             behind = x.1;
             others = z.0;
             reads = x.2;
             rests = z.2 ∙ ap (done z.0) w.1;
-            parts = ap (λ (ks : List ℕ). export_all l ks now-is.operands) next_is
+            parts = ap (λ (ks : List ℕ). export_all l ks now_is.operands) next_is
                 ∙ (ap (export_all l (k ∷ slice (q + 1) stop kinds)) (sym w.0) ∙ some_text l k (slice (q + 1) stop kinds) x.0 z.0);
           }
 
-      pub next-asks : TreeAsks s index k b to levels (length o₁) m l next.first next.behind
-      next-asks =
+      pub next_asks : TreeAsks s index k b to levels (length o₁) m l next.first next.behind
+      next_asks =
           let u = export l k next.first in
           let v = export_all l (slice (q + 1) stop kinds) next.others in
           record {
-            indexed = now-is.asks.indexed;
+            indexed = now_is.asks.indexed;
             reads = next.reads;
-            fits = omega (arith, now-is.asks.fits, ap length next.parts, length-append u v);
+            fits = omega (arith, now_is.asks.fits, ap length next.parts, length-append u v);
           }
 
       pub goes_next : {o₂ : List ℕ} {e h : ℕ} → Exported (export l k next.first) b next.behind o₁ o₂ m e h
@@ -121,14 +121,14 @@ module _ (kinds s index : List ℕ) (from stop : ℕ) (b : List ℕ) (at levels 
           let v = export_all l (slice (q + 1) stop kinds) next.others in
           record {
             operands = next.others;
-            text = now-is.text ++ u;
+            text = now_is.text ++ u;
             asks = record {
-              indexed = now-is.asks.indexed;
+              indexed = now_is.asks.indexed;
               reads = ap (read_all (read tree l [] levels) (slice (q + 1) stop kinds)) w.left ∙ next.rests;
-              fits = omega (arith, w.put.end, now-is.asks.fits, ap length next.parts, length-append u v);
+              fits = omega (arith, w.put.end, now_is.asks.fits, ap length next.parts, length-append u v);
             };
-            whole = now-is.whole ∙ (ap (λ (z : List ℕ). now-is.text ++ z) next.parts ∙ sym (append_assoc now-is.text u v));
-            put = written_then now-is.put long₁ w.put;
+            whole = now_is.whole ∙ (ap (λ (z : List ℕ). now_is.text ++ z) next.parts ∙ sym (append_assoc now_is.text u v));
+            put = written_then now_is.put long₁ w.put;
           }
 
 -- The numbers in the tags of a production.
@@ -142,12 +142,12 @@ module _ (s index b : List ℕ) (k at levels : ℕ) (kind : k < 32) (bytes : (i 
     stands : ReadToken b at a rest
     stands = read_token_lem s index b k at kind bytes ej ec ep l q.indexed levels a rest q.reads none
 
-    pub token-there : 2 ≤ length b - at
-    token-there = stands.there
+    pub token_there : 2 ≤ length b - at
+    token_there = stands.there
 
     module _ {v : ℕ} (ev : v ≡ pair_at b at) where
-      pub token-room : n + (7 + 2 * length (decimal j) + length (decimal v)) ≤ room
-      token-room =
+      pub token_room : n + (7 + 2 * length (decimal j) + length (decimal v)) ≤ room
+      token_room =
           let d : length (decimal j) ≡ length (decimal k) = ap (λ (i : ℕ). length (decimal i)) ej in
           let e : length (decimal v) ≡ length (decimal (pair_at b at)) = ap (λ (i : ℕ). length (decimal i)) ev in
           omega (arith, q.fits, ap length (token_text l k stands), token_length k (pair_at b at), d, e)
@@ -159,13 +159,13 @@ module _ (s index b : List ℕ) (k at levels : ℕ) (kind : k < 32) (bytes : (i 
           record { left = stands.left; inside = omega (arith, stands.there); put = written_same (sym (token_text l k stands)) u }
 
   module _ (pos : place ≡ 0 → ⊥) where
-    pub level-left : {room n : ℕ} {l : Language} {a : Code} {rest : List ℕ} → TreeAsks s index k b at levels room n l a rest → levels ≡ 0 → ⊥
-    level-left {room} {n} {l} {a} {rest} q h = read-deep s index b k at kind bytes ej ec ep l q.indexed levels a rest q.reads pos h
+    pub level_left : {room n : ℕ} {l : Language} {a : Code} {rest : List ℕ} → TreeAsks s index k b at levels room n l a rest → levels ≡ 0 → ⊥
+    level_left {room} {n} {l} {a} {rest} q h = read_deep s index b k at kind bytes ej ec ep l q.indexed levels a rest q.reads pos h
 
     module _ {p size : ℕ} (ename : p ≡ get_or b at 0) (es : size ≡ pair_at s place) (o : List ℕ) {n : ℕ} {l : Language} {a : Code} {rest : List ℕ}
         (q : TreeAsks s index k b at levels (length o) n l a rest) where
       pub found : ReadNode s l k b at levels (place + 4) (place + 2 + size) a rest
-      found = read-production s index b k at kind bytes ej ec ep l q.indexed levels a rest q.reads pos (level-left q) es
+      found = read_production s index b k at kind bytes ej ec ep l q.indexed levels a rest q.reads pos (level_left q) es
 
       abbrev inner : List ℕ
       inner = export_all l (slice (place + 4) (place + 2 + size) s) found.operands
@@ -179,20 +179,20 @@ module _ (s index b : List ℕ) (k at levels : ℕ) (kind : k < 32) (bytes : (i 
           let w = node_tag close_node j p in
           omega (arith, ap length parts, length-append u (inner ++ w), length-append inner w, node_length open_node j p, node_length close_node j p)
 
-      pub opening-room : n + (4 + length (decimal j) + length (decimal p)) ≤ length o
-      opening-room = omega (arith, q.fits, sizes)
+      pub opening_room : n + (4 + length (decimal j) + length (decimal p)) ≤ length o
+      opening_room = omega (arith, q.fits, sizes)
 
       module _ {o₁ : List ℕ} {m : ℕ} (begun : Written (node_tag open_node j p) o o₁ n m) (long₁ : length o₁ ≡ length o) where
-        pub operands-ask : TreesAsk s s index (place + 4) (place + 2 + size) b (at + 1) (levels - 1) (length o₁) m l found.operands rest
-        operands-ask = record {
+        pub operands_ask : TreesAsk s s index (place + 4) (place + 2 + size) b (at + 1) (levels - 1) (length o₁) m l found.operands rest
+        operands_ask = record {
           indexed = q.indexed;
           reads = found.reads;
           fits = omega (arith, q.fits, sizes, begun.end, node_length open_node j p);
         }
 
         module _ {o₂ : List ℕ} {e h : ℕ} (all : Exported inner b rest o₁ o₂ m e h) (long₂ : length o₂ ≡ length o₁) where
-          pub closing-room : h + (5 + length (decimal j) + length (decimal p)) ≤ length o₂
-          closing-room = omega (arith, q.fits, sizes, begun.end, all.put.end, node_length open_node j p)
+          pub closing_room : h + (5 + length (decimal j) + length (decimal p)) ≤ length o₂
+          closing_room = omega (arith, q.fits, sizes, begun.end, all.put.end, node_length open_node j p)
 
           pub node_done : {o₃ : List ℕ} {r : ℕ} → Written (node_tag close_node j p) o₂ o₃ h r → Exported (export l k a) b rest o o₃ n e r
           node_done w = record {
@@ -204,5 +204,5 @@ module _ (s index b : List ℕ) (k at levels : ℕ) (kind : k < 32) (bytes : (i 
         -- A production without arguments.
         pub none_inside : place + 2 + size ≤ place + 4 → Exported inner b rest o₁ o₁ m (at + 1) m
         none_inside h =
-            goes-done s s index (place + 4) (place + 2 + size) b (at + 1) (levels - 1) o₁ m (goes_start s s index (place + 4) (place + 2 + size) b (at + 1) (levels - 1) o₁ m) h
-            (omega (arith, at_name s index b k at kind bytes ej ec ep pos)) l found.operands rest operands-ask
+            goes_done s s index (place + 4) (place + 2 + size) b (at + 1) (levels - 1) o₁ m (goes_start s s index (place + 4) (place + 2 + size) b (at + 1) (levels - 1) o₁ m) h
+            (omega (arith, at_name s index b k at kind bytes ej ec ep pos)) l found.operands rest operands_ask

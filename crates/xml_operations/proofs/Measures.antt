@@ -18,7 +18,7 @@ use Rattle.tree_reader.specs.Syntax.{Read, done, deep, broken, and_then, tree, r
 use Rattle.tree_reader.specs.Inner.Index.{Indexed}
 use Rattle.tree_reader.specs.Inner.Positions.{production_place}
 use Rattle.tree_reader.specs.declared.node.Syntax.TheVariants.{Tree}
-use Rattle.check_operations.proofs.Reading.{class_known, class_none, at-known, at_reads, two, read_class, read_past, token_cut, level_read, none_read}
+use Rattle.check_operations.proofs.Reading.{class_known, class_none, at_known, at_reads, two, read_class, read_past, token_cut, level_read, none_read}
 use Rattle.format_fields.specs.Decimal.{decimal}
 use Rattle.xml_text.specs.Text.{node_tag, token_tag, open_node, close_node, open_token, close_token, kinds_of, export, export_all}
 use Rattle.xml_operations.specs.declared.measure.Measured.{Measured}
@@ -168,13 +168,13 @@ module _ (s index b : List ℕ) (k at levels n : ℕ) (kind : k < 32) (bytes : (
       ((λ e m q. (w.0 e m q).1), λ l z. measures_same (sym (read_class l k (drop at b) levels (class_range s (class - 1)) (class_known s index l z k kind class class_is h))) (w.1 l))
 
   module _ (no : class ≡ 0) where
-    pub at-deep : levels ≡ 0 → MeasuresAt s index k b at levels n Deep
-    at-deep h =
+    pub at_deep : levels ≡ 0 → MeasuresAt s index k b at levels n Deep
+    at_deep h =
         (within_deep b, λ l z. measures_deep (ap (λ (i : ℕ). read tree l [] i k (drop at b)) h ∙ read_past l k (drop at b) (class_none s index l z k kind class class_is no)))
 
     module _ (some_level : levels ≡ 0 → ⊥) {place : ℕ} (ep : place ≡ cond (eqb class 0) (production_place Tree index k b at) 0) where
-      pub at-broken : place ≡ 0 → MeasuresAt s index k b at levels n Broken
-      at-broken p = (within_broken b, λ l z. measures_broken (level_read s index l z k kind b at class_is no levels some_level ∙ none_read s index l z k kind b at class_is no bytes ep p (levels - 1)))
+      pub at_broken : place ≡ 0 → MeasuresAt s index k b at levels n Broken
+      at_broken p = (within_broken b, λ l z. measures_broken (level_read s index l z k kind b at class_is no levels some_level ∙ none_read s index l z k kind b at class_is no bytes ep p (levels - 1)))
 
       module _ (pos : place ≡ 0 → ⊥) where
         module _ {size m : ℕ} (es : size ≡ pair_at s place) (tags : Sum n (length (node_tag open_node k (get_or b at 0)) + length (node_tag close_node k (get_or b at 0))) m) where
@@ -188,14 +188,14 @@ module _ (s index b : List ℕ) (k at levels n : ℕ) (kind : k < 32) (bytes : (
               let u = node_tag open_node k (get_or b at 0) in
               let w = node_tag close_node k (get_or b at 0) in
               let v = export_all l kinds t in
-              let e : export l k (node k (get_or b at 0) t) ≡ u ++ (v ++ w) = rw (at-known s index b k at kind bytes ej ec ep pos es l z) refl in
+              let e : export l k (node k (get_or b at 0) t) ≡ u ++ (v ++ w) = rw (at_known s index b k at kind bytes ej ec ep pos es l z) refl in
               omega (arith, ap length e, length-append u (v ++ w), length-append v w)
 
           -- What a production adds: its tags, and its operands.
-          pub at-opened : (l : Language) → Indexed index s l
+          pub at_opened : (l : Language) → Indexed index s l
               → sized_of (λ a. length (export l k a)) (read tree l [] levels k (drop at b))
               ≡ add (length (node_tag open_node k (get_or b at 0)) + length (node_tag close_node k (get_or b at 0))) (row_sized l (levels - 1) s (place + 4) (place + 2 + size) (drop (at + 1) b))
-          at-opened l z = ap (sized_of (λ a. length (export l k a))) (at_reads s index b k at kind bytes ej ec ep pos es levels some_level l z) ∙ go (read_all (read tree l [] (levels - 1)) kinds (drop (at + 1) b))
+          at_opened l z = ap (sized_of (λ a. length (export l k a))) (at_reads s index b k at kind bytes ej ec ep pos es levels some_level l z) ∙ go (read_all (read tree l [] (levels - 1)) kinds (drop (at + 1) b))
             where
               go : (p : Read Codes) → sized_of (λ a. length (export l k a)) (and_then p λ t r. done (node k (get_or b at 0) t) r)
                   ≡ add (length (node_tag open_node k (get_or b at 0)) + length (node_tag close_node k (get_or b at 0))) (sized_of (λ t. length (export_all l kinds t)) p)

@@ -22,12 +22,12 @@ use Rattle.tree_reader.specs.declared.node.Syntax.TheVariants.{Tree}
 use Rattle.xml_text.specs.Text.{node_tag, open_node, close_node, export, export_all}
 use Rattle.xml_text.specs.Inner.Importing.{row_kinds}
 use Rattle.xml_text.proofs.Rows.{below_root, row_long, row_in}
-use Rattle.xml_text.proofs.Unwinding.{unwindBy, unwind_stop, unwind_none, unwind_one, unwind_same}
+use Rattle.xml_text.proofs.Unwinding.{unwind_by, unwind_stop, unwind_none, unwind_one, unwind_same}
 use Rattle.xml_operations.specs.declared.measure.Measured.{Measured}
 use Rattle.xml_operations.specs.declared.measure.Measured.TheVariants.{End, Deep, Broken}
 use Rattle.xml_operations.specs.Inner.Measuring.{Sum, Within, Measures, MeasuresTree, MeasuresTrees}
-use Rattle.xml_operations.proofs.Measures.{Sized, got, too_deep_lem, no_tree, sized_of, add, row_sized, MeasuresToken, within_deep, within_broken, within_end, measures_deep, measures_broken, measures_end, sum_zero, sum_same, sum_then, at_class, at-deep, at-broken, at-opened}
-use Rattle.check_operations.proofs.Reading.{at_name, at_place, at-kinds}
+use Rattle.xml_operations.proofs.Measures.{Sized, got, too_deep_lem, no_tree, sized_of, add, row_sized, MeasuresToken, within_deep, within_broken, within_end, measures_deep, measures_broken, measures_end, sum_zero, sum_same, sum_then, at_class, at_deep, at_broken, at_opened}
+use Rattle.check_operations.proofs.Reading.{at_name, at_place, at_kinds}
 
 -- One reading behind another.
 abbrev pub then_sized : Sized → (List ℕ → Sized) → Sized
@@ -82,7 +82,7 @@ module _ (l : Language) (levels : ℕ) (kinds : List ℕ) (q e : ℕ) (u : List 
 
 -- The rows that wait.
 abbrev unwind : (ℕ → List ℕ → Sized) → ℕ → Sized → Sized
-unwind = unwindBy then_sized
+unwind = unwind_by then_sized
 
 unwind_deep : (f : ℕ → List ℕ → Sized) (d : ℕ) → unwind f d too_deep_lem ≡ too_deep_lem
 unwind_deep f d = unwind_stop then_sized f d too_deep_lem (λ h. refl)
@@ -91,7 +91,7 @@ unwind_broken : (f : ℕ → List ℕ → Sized) (d : ℕ) → unwind f d no_tre
 unwind_broken f d = unwind_stop then_sized f d no_tree (λ h. refl)
 
 unwind_add : (f : ℕ → List ℕ → Sized) (d n : ℕ) (x : Sized) → unwind f d (add n x) ≡ add n (unwind f d x)
-unfolding unwindBy
+unfolding unwind_by
 unwind_add f zero n x = refl
 unwind_add f (suc d) n x = ap (unwind f d) (add_then n x (f d)) ∙ unwind_add f d n (then_sized x (f d))
 
@@ -184,8 +184,8 @@ module _ (s index : List ℕ) (k : ℕ) (b : List ℕ) where
       pub open_above : (get_or firsts c 0 ≤ 1024) × (get_or lasts c 0 ≤ 1024)
       open_above = let w = o.waiting c (omega arith) in (w.0, w.1)
 
-      pub open-back : Open s index k b firsts lasts c (get_or firsts c 0) (get_or lasts c 0) to n
-      open-back =
+      pub open_back : Open s index k b firsts lasts c (get_or firsts c 0) (get_or lasts c 0) to n
+      open_back =
           record {
             inside = o.inside;
             shallow = omega (arith, o.shallow);
@@ -210,12 +210,12 @@ module _ (s index : List ℕ) (k : ℕ) (b : List ℕ) where
       pub open_in : (q < length (row_kinds k s d)) × (get_or (row_kinds k s d) q 0 < 32) × (e ≤ length (row_kinds k s d))
       open_in = row_in (row_kinds k s d) q e o.kinds more
 
-      pub open-short : length s ≤ 1024 → (q < 1024) × (e ≤ 1024)
-      open-short short = let w = row_long k s d short in let z = open_in in (omega (arith, z.0), omega (arith, z.2))
+      pub open_short : length s ≤ 1024 → (q < 1024) × (e ≤ 1024)
+      open_short short = let w = row_long k s d short in let z = open_in in (omega (arith, z.0), omega (arith, z.2))
 
       module _ {i : ℕ} (en : i ≡ get_or (row_kinds k s d) q 0) where
-        pub open-kind : i < 32
-        open-kind = let z = open_in in omega (arith, z.1)
+        pub open_kind : i < 32
+        open_kind = let z = open_in in omega (arith, z.1)
 
         abbrev size_of : Language → Code → ℕ
         size_of l a = length (export l i a)
@@ -232,16 +232,16 @@ module _ (s index : List ℕ) (k : ℕ) (b : List ℕ) where
             ∙ ap (λ (x : Sized). then_sized x (row_at l k s d (q + 1) e)) h)
 
         module _ {y : Measured} (step : MeasuresTree s index i b to (tree_levels - d) n y) where
-          open-broken : y ≡ Broken → Answers Broken
-          open-broken h = (
+          open_broken : y ≡ Broken → Answers Broken
+          open_broken h = (
             within_broken b,
             λ l z. sized_broken (export_all l (k ∷ [])) (read_all (read tree l [] tree_levels) (k ∷ []) b) b
                 (ap (add (o.counted l z).size) (sym (unwind_broken (waits_in l k s firsts lasts) d))
                 ∙ (ap (λ (x : Sized). add (o.counted l z).size (left l x)) (sym (next l (ap (one l) ((step l z).broken h)))) ∙ (o.counted l z).comes)),
           )
 
-          open-deep : y ≡ Deep → Answers Deep
-          open-deep h = (
+          open_deep : y ≡ Deep → Answers Deep
+          open_deep h = (
             within_deep b,
             λ l z. sized_deep (export_all l (k ∷ [])) (read_all (read tree l [] tree_levels) (k ∷ []) b) b
                 (ap (add (o.counted l z).size) (sym (unwind_deep (waits_in l k s firsts lasts) d))
@@ -272,35 +272,35 @@ module _ (s index : List ℕ) (k : ℕ) (b : List ℕ) where
         module _ (bytes : (j : ℕ) → get_or b j 0 < 256) {j class : ℕ} (ej : j ≡ i) (ec : class ≡ get_or index j 0) where
           -- A token.
           module _ (some_class : class ≡ 0 → ⊥) {x : Measured} (token_is : MeasuresToken i (class_range s (class - 1)) b to n x) where
-            token-step : MeasuresTree s index i b to (tree_levels - d) n x
-            token-step = (at_class s index b i to (tree_levels - d) n open-kind bytes ej ec x some_class token_is).1
+            token_step : MeasuresTree s index i b to (tree_levels - d) n x
+            token_step = (at_class s index b i to (tree_levels - d) n open_kind bytes ej ec x some_class token_is).1
 
-            pub turn-no-token : x ≡ Broken → Answers Broken
-            turn-no-token h = open-broken token-step h
+            pub turn_no_token : x ≡ Broken → Answers Broken
+            turn_no_token h = open_broken token_step h
 
-            pub turn-deep-token : x ≡ Deep → Answers Deep
-            turn-deep-token h = open-deep token-step h
+            pub turn_deep_token : x ≡ Deep → Answers Deep
+            turn_deep_token h = open_deep token_step h
 
-            pub turn-token : {t m : ℕ} → x ≡ End t m → Open s index k b firsts lasts d (q + 1) e t m
-            turn-token {t} {m} h = open_next token-step h (token_is.0 t m h).1
+            pub turn_token : {t m : ℕ} → x ≡ End t m → Open s index k b firsts lasts d (q + 1) e t m
+            turn_token {t} {m} h = open_next token_step h (token_is.0 t m h).1
 
           module _ (no : class ≡ 0) where
-            pub turn-deep : d ≡ 64 → Answers Deep
-            turn-deep h = open-deep (at-deep s index b i to (tree_levels - d) n open-kind bytes ej ec no (omega arith)).1 refl
+            pub turn_deep : d ≡ 64 → Answers Deep
+            turn_deep h = open_deep (at_deep s index b i to (tree_levels - d) n open_kind bytes ej ec no (omega arith)).1 refl
 
             module _ (some_level : d ≡ 64 → ⊥) {place : ℕ} (ep : place ≡ cond (eqb class 0) (production_place Tree index i b to) 0) where
-              levels-left : tree_levels - d ≡ 0 → ⊥
-              levels-left h = some_level (omega (arith, o.shallow))
+              levels_left : tree_levels - d ≡ 0 → ⊥
+              levels_left h = some_level (omega (arith, o.shallow))
 
-              pub turn-broken : place ≡ 0 → Answers Broken
-              turn-broken h = open-broken (at-broken s index b i to (tree_levels - d) n open-kind bytes ej ec no levels-left ep h).1 refl
+              pub turn_broken : place ≡ 0 → Answers Broken
+              turn_broken h = open_broken (at_broken s index b i to (tree_levels - d) n open_kind bytes ej ec no levels_left ep h).1 refl
 
               module _ (pos : place ≡ 0 → ⊥) where
-                pub turn-name : to < length b
-                turn-name = at_name s index b i to open-kind bytes ej ec ep pos
+                pub turn_name : to < length b
+                turn_name = at_name s index b i to open_kind bytes ej ec ep pos
 
-                pub turn-place : Sound index s → (place + 4 ≤ length s) × (length s ≤ 1024)
-                turn-place known = at_place s index b i to open-kind bytes ej ec ep pos known
+                pub turn_place : Sound index s → (place + 4 ≤ length s) × (length s ≤ 1024)
+                turn_place known = at_place s index b i to open_kind bytes ej ec ep pos known
 
                 module _ {size m : ℕ} (es : size ≡ pair_at s place) (tags : Sum n (length (node_tag open_node i (get_or b to 0)) + length (node_tag close_node i (get_or b to 0))) m) where
                   abbrev then : Language → ℕ → List ℕ → Sized
@@ -326,7 +326,7 @@ module _ (s index : List ℕ) (k : ℕ) (b : List ℕ) where
 
                   down : (l : Language) → Indexed index s l → row_at l k s d q e (drop to b) ≡ add both (then_sized (below l) (row_at l k s d (q + 1) e))
                   down l z =
-                      next l (at-opened s index b i to (tree_levels - d) n open-kind bytes ej ec no levels-left ep pos es tags l z)
+                      next l (at_opened s index b i to (tree_levels - d) n open_kind bytes ej ec no levels_left ep pos es tags l z)
                       ∙ add_then both (below l) (row_at l k s d (q + 1) e)
 
                   pushed : (l : Language) → unwind (then l) (d + 1) (row_at l k s (d + 1) (place + 4) (place + 2 + size) (drop (to + 1) b)) ≡ left l (then_sized (below l) (row_at l k s d (q + 1) e))
@@ -350,19 +350,19 @@ module _ (s index : List ℕ) (k : ℕ) (b : List ℕ) where
                       let r : d < 64 = omega (arith, o.shallow, some_level) in
                       let hf : d < length firsts = omega (arith, o.first_long) in
                       let hl : d < length lasts = omega (arith, o.last_long) in
-                      let w = open-short short in
+                      let w = open_short short in
                       rw (y, get_or-set_same firsts d (q + 1) 0 hf, get_or-set_same lasts d e 0 hl)
                       (omega (arith, w.0), w.1, λ x g v. o.kinds x (omega arith) v))
                       (λ t.
                       let y : j ≡ d → ⊥ = eqb-false j d t in
                       rw (get_or-set_other firsts d j (q + 1) 0 y, get_or-set_other lasts d j e 0 y) (o.waiting j (omega arith)))
 
-                  pub turn-down : Sound index s → Open s index k b (set firsts d (q + 1)) (set lasts d e) (d + 1) (place + 4) (place + 2 + size) (to + 1) m
-                  turn-down known =
+                  pub turn_down : Sound index s → Open s index k b (set firsts d (q + 1)) (set lasts d e) (d + 1) (place + 4) (place + 2 + size) (to + 1) m
+                  turn_down known =
                       record {
-                        inside = let w = turn-name in omega (arith, w);
+                        inside = let w = turn_name in omega (arith, w);
                         shallow = omega (arith, o.shallow, some_level);
-                        kinds = rw (below_root k s (d + 1) (λ y. omega arith)) (at-kinds s index b i to open-kind bytes ej ec ep pos es known);
+                        kinds = rw (below_root k s (d + 1) (λ y. omega arith)) (at_kinds s index b i to open_kind bytes ej ec ep pos es known);
                         waiting = waits known.short;
                         first_long = length-set firsts d (q + 1) ∙ o.first_long;
                         last_long = length-set lasts d e ∙ o.last_long;

@@ -49,8 +49,8 @@ module _ (s index : List ℕ) (k : ℕ) (text o : List ℕ) {x : Text} (first : 
     one : (l : Language) → Indexed index s l → (a : Code) × (read_text l tree_levels k text ≡ done a (drop e text))
     one l z = (first l z).found e ex
 
-    pub text-left : {out : Outcome} → (e ≡ length text → ⊥) → out ≡ Refused Why.NotAnExport → GivesWhole s index k text o o out
-    text-left h i l z =
+    pub text_left : {out : Outcome} → (e ≡ length text → ⊥) → out ≡ Refused Why.NotAnExport → GivesWhole s index k text o o out
+    text_left h i l z =
         let f = one l z in
         let j = inside e ex in
         let g : e < length text = omega arith in
@@ -64,8 +64,8 @@ module _ (s index : List ℕ) (k : ℕ) (text o : List ℕ) {x : Text} (first : 
       holds l z = held_whole s l z.entries bytes tree_levels k text (one l z).0 (whole l z)
 
       module _ {y : Bool} (room : (v : List ℕ) → Contents text v → y ≡ leb (length v) (length o)) where
-        pub text-long : {out : Outcome} → y ≡ false → out ≡ Refused Why.OutputTooShort → GivesWhole s index k text o o out
-        text-long h i l z =
+        pub text_long : {out : Outcome} → y ≡ false → out ≡ Refused Why.OutputTooShort → GivesWhole s index k text o o out
+        text_long h i l z =
             let n = leb-false (length (write tree (one l z).0)) (length o) (sym (room _ (holds l z)) ∙ h) in
             gives_same _ _ o o (ap (result (length o)) (whole l z)) (gives_long (write tree (one l z).0) o (omega arith) i)
 
@@ -97,10 +97,10 @@ module _ (s : List ℕ) (root : ℕ) (text o : List ℕ) where
   by_root = (λ i. language_of s >>= λ l. of_root l i) ∙ rooted_steps s root (λ l. result (length o) (read_text l tree_levels root text))
 
   module _ {out : Outcome} where
-    pub import-refused : {r : Reason} → rooted_of s root ≡ refused r → out ≡ Refused r → AsImport s root text o o out
+    pub import_refused : {r : Reason} → rooted_of s root ≡ refused r → out ≡ Refused r → AsImport s root text o o out
     unfolding import_tree
-    import-refused {r} e i = gives_refused (import_bytes s root text (length o)) o r (by_root ∙ rw e refl) i
+    import_refused {r} e i = gives_refused (import_bytes s root text (length o)) o r (by_root ∙ rw e refl) i
 
-    pub import-done : (l : Language) → rooted_of s root ≡ value l → (index o' : List ℕ) → Indexed index s l → GivesWhole s index root text o o' out → AsImport s root text o o' out
+    pub import_done : (l : Language) → rooted_of s root ≡ value l → (index o' : List ℕ) → Indexed index s l → GivesWhole s index root text o o' out → AsImport s root text o o' out
     unfolding import_tree
-    import-done l e index o' z g = gives_same (import_bytes s root text (length o)) (result (length o) (read_text l tree_levels root text)) o o' (by_root ∙ rw e refl) (g l z)
+    import_done l e index o' z g = gives_same (import_bytes s root text (length o)) (result (length o) (read_text l tree_levels root text)) o o' (by_root ∙ rw e refl) (g l z)

@@ -16,7 +16,7 @@ use Rattle.format_language.specs.LanguageFile.{entries_of}
 use Rattle.format_language.specs.Inner.Entries.{entry_at, class_range}
 use Rattle.format_language.proofs.Holds.{holds_entries}
 use Rattle.tree_reader.specs.Code.{Code, node, token, argument, Codes, nil, cons}
-use Rattle.tree_reader.specs.Typing.{Typed, TypedAll, typed-node, typed-token, typed-argument, typed-nil, typed-cons}
+use Rattle.tree_reader.specs.Typing.{Typed, TypedAll, typed_node, typed_token, typed_argument, typed_nil, typed_cons}
 use Rattle.tree_reader.specs.Syntax.{done, write, write_all, tree}
 use Rattle.format_fields.specs.Decimal.{decimal}
 use Rattle.xml_text.specs.Text.{open_token, close_node, close_token, node_tag, token_tag, export, export_all}
@@ -65,15 +65,15 @@ module _ (s : List ℕ) (l : Language) (e : entries_of s ≡ some l) (bytes : (i
     unfolding export_all write
 
     held : {a : Code} {k : ℕ} → Typed l [] a k → (r u : List ℕ) → Contents r u → Contents (export l k a ++ r) (write tree a ++ u)
-    held (typed-node {k = k} {p = p} {t = t} {ks = ks} h g) r u c =
-        opening k p (name_small s l e bytes k p ks h) (node_parts l k k p t ks r h) (heldAll g (node_tag close_node k p ++ r) u (closing k p refl c))
-    held (typed-token {v = v} {k = k} {c = d} h g) r u c = value k v (value_small k v d h g) (token_parts k v r) c
-    held (typed-argument {i = i} {j = j} h) r u c = no_kind i j h
+    held (typed_node {k = k} {p = p} {t = t} {ks = ks} h g) r u c =
+        opening k p (name_small s l e bytes k p ks h) (node_parts l k k p t ks r h) (held_all g (node_tag close_node k p ++ r) u (closing k p refl c))
+    held (typed_token {v = v} {k = k} {c = d} h g) r u c = value k v (value_small k v d h g) (token_parts k v r) c
+    held (typed_argument {i = i} {j = j} h) r u c = no_kind i j h
 
-    heldAll : {t : Codes} {ks : List ℕ} → TypedAll l [] t ks → (r u : List ℕ) → Contents r u → Contents (export_all l ks t ++ r) (write_all tree t ++ u)
-    heldAll typed-nil r u c = c
-    heldAll (typed-cons {a = a} {k = k} {t = t} {ks = ks} h g) r u c =
-        rw (append_assoc, append_assoc) (held h (export_all l ks t ++ r) (write_all tree t ++ u) (heldAll g r u c))
+    held_all : {t : Codes} {ks : List ℕ} → TypedAll l [] t ks → (r u : List ℕ) → Contents r u → Contents (export_all l ks t ++ r) (write_all tree t ++ u)
+    held_all typed_nil r u c = c
+    held_all (typed_cons {a = a} {k = k} {t = t} {ks = ks} h g) r u c =
+        rw (append_assoc, append_assoc) (held h (export_all l ks t ++ r) (write_all tree t ++ u) (held_all g r u c))
 
   -- What was read whole holds the bytes of the tree that it gave.
   pub held_whole : (n k : ℕ) (text : List ℕ) (a : Code) → read_text l n k text ≡ done a [] → Contents text (write tree a)

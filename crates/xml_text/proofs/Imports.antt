@@ -35,7 +35,7 @@ use Rattle.xml_text.specs.Inner.Scanning.{closes, Numbers, Tokens}
 use Rattle.xml_text.specs.Inner.Importing.{Inside, Imports, Opens, OpensElement, Elements, ImportsTree, place_of}
 use Rattle.xml_text.proofs.Round.{class_text, no_class, opening_sound}
 use Rattle.xml_text.proofs.Words.{closing_word}
-use Rattle.check_operations.proofs.Reading.{class_known, class_none, production-none, production-known}
+use Rattle.check_operations.proofs.Reading.{class_known, class_none, production_none, production_known}
 use Rattle.xml_text.proofs.Scans.{no_number, number_at_lem, closes_tag}
 
 -- Answers.
@@ -158,26 +158,26 @@ module _ (s index text : List ℕ) (k at : ℕ) (kind : k < 32) (bytes : (i : �
       (λ p r g. unknown reads l p r (large_none s l z.entries bytes k p (omega arith))))
 
   module _ {p a : ℕ} (ex : x ≡ N.Is p a) {place : ℕ} (ep : place ≡ place_of index k p) where
-    pub element-unknown : place ≡ 0 → Elements s index k text at E.Nothing
+    pub element_unknown : place ≡ 0 → Elements s index k text at E.Nothing
     unfolding place_of read_element
-    element-unknown h =
-        element_not (λ l z reads. number_at_lem opened (λ p r. read_operands reads k p (arguments_of l k p) r) ex ∙ unknown reads l p (drop a text) (none-at l z))
+    element_unknown h =
+        element_not (λ l z reads. number_at_lem opened (λ p r. read_operands reads k p (arguments_of l k p) r) ex ∙ unknown reads l p (drop a text) (none_at l z))
       where
-        none-at : (l : Language) → Indexed index s l → arguments_of l k p ≡ none
-        none-at l z =
+        none_at : (l : Language) → Indexed index s l → arguments_of l k p ≡ none
+        none_at l z =
             by_test (ltb 255 p)
             (λ t. let g = ltb-true 255 p t in large_none s l z.entries bytes k p (omega arith))
             (λ t.
             let g = ltb-false 255 p t in
             let y : place ≡ get_or index (production_key k p) 0 = cc in
-            production-none s index l z k kind p (omega arith) place y h)
+            production_none s index l z k kind p (omega arith) place y h)
 
     module _ (pos : place ≡ 0 → ⊥) (known : Sound index s) where
       pub element_place : (place + 4 ≤ length s) × (length s ≤ 1024)
       element_place = let f = found_name index k p ep pos in name_in index s known refl kind f.0 f.1 pos
 
-      pub element-found : {first last : ℕ} → first ≡ place + 4 → last ≡ place + 2 + pair_at s place → Elements s index k text at (E.Of first last a)
-      element-found {first} {last} ef el =
+      pub element_found : {first last : ℕ} → first ≡ place + 4 → last ≡ place + 2 + pair_at s place → Elements s index k text at (E.Of first last a)
+      element_found {first} {last} ef el =
           let f = found_name index k p ep pos in
           record {
             found = λ q e b h.
@@ -211,15 +211,15 @@ module _ (s index text : List ℕ) (k at levels : ℕ) (kind : k < 32) (bytes : 
     token : (l : Language) → Indexed index s l → read_text l levels k (drop at text) ≡ read_token k (class_range s (class - 1)) (drop at text)
     token l z = class_text l levels k (class_range s (class - 1)) (drop at text) (class_known s index l z k kind class class_is some_class)
 
-    pub at-no-token : x ≡ N.Nothing → ImportsTree s index k text at levels Broken
-    at-no-token h l z = imports_broken (token l z ∙ token_is.nothing h)
+    pub at_no_token : x ≡ N.Nothing → ImportsTree s index k text at levels Broken
+    at_no_token h l z = imports_broken (token l z ∙ token_is.nothing h)
 
     pub at_token : {v e : ℕ} → x ≡ N.Is v e → ImportsTree s index k text at levels (End e)
     at_token {v} {e} h l z = imports_end (leaf v) (token l z ∙ token_is.found v e h)
 
   module _ (no : class ≡ 0) where
-    pub at-deep : levels ≡ 0 → ImportsTree s index k text at levels Deep
-    at-deep h l z =
+    pub at_deep : levels ≡ 0 → ImportsTree s index k text at levels Deep
+    at_deep h l z =
         imports_deep (ap (λ (i : ℕ). read_text l i k (drop at text)) h ∙ text_past l k (drop at text) (class_none s index l z k kind class class_is no))
 
     module _ (some_level : levels ≡ 0 → ⊥) where
@@ -229,43 +229,43 @@ module _ (s index text : List ℕ) (k at levels : ℕ) (kind : k < 32) (bytes : 
           ap (λ (i : ℕ). read_text l i k (drop at text)) m ∙ no_class l (levels - 1) k (drop at text) (class_none s index l z k kind class class_is no)
 
       module _ {x : Element} (elements : Elements s index k text at x) where
-        pub at-no-element : x ≡ E.Nothing → ImportsTree s index k text at levels Broken
-        at-no-element h l z = imports_broken (element l z ∙ elements.nothing h l z (read_text l (levels - 1)))
+        pub at_no_element : x ≡ E.Nothing → ImportsTree s index k text at levels Broken
+        at_no_element h l z = imports_broken (element l z ∙ elements.nothing h l z (read_text l (levels - 1)))
 
         module _ {q e a : ℕ} (ex : x ≡ E.Of q e a) where
-          is-element : OpensElement s index k text at q e a
-          is-element = elements.found q e a ex
+          is_element : OpensElement s index k text at q e a
+          is_element = elements.found q e a ex
 
           abbrev p : ℕ
-          p = is-element.name
+          p = is_element.name
 
-          pub at-kinds : KindsIn s q e
-          at-kinds = is-element.kinds
+          pub at_kinds : KindsIn s q e
+          at_kinds = is_element.kinds
 
-          pub at-past : (at + 2 ≤ a) × (a ≤ length text)
-          at-past = let w = is-element.opens in (w.past, w.inside)
+          pub at_past : (at + 2 ≤ a) × (a ≤ length text)
+          at_past = let w = is_element.opens in (w.past, w.inside)
 
           known : (l : Language) → Indexed index s l → arguments_of l k p ≡ some (slice q e s)
           known l z =
-              let w = is-element in
+              let w = is_element in
               let f = found_name index k p w.is_place w.some_place in
-              production-known s index l z k kind p f.0 w.place f.1 w.some_place refl
+              production_known s index l z k kind p f.0 w.place f.1 w.some_place refl
               ∙ (ap (λ (i : ℕ). some (slice i (w.place + 2 + pair_at s w.place) s)) (sym w.from) ∙ ap (λ (i : ℕ). some (slice q i s)) (sym w.to))
 
           same_tag : closes at (a - at + 1) text ≡ node_tag close_node k p
           unfolding node_tag
           same_tag =
-              let w = is-element.opens in
+              let w = is_element.opens in
               closes_tag text at a (120 ∷ (decimal k ++ (46 ∷ (decimal p ++ (62 ∷ []))))) (omega (arith, w.past, w.inside)) w.inside
               (opening_sound k (drop at text) p (drop a text) w.reads)
 
           -- What follows the opening tag: the arguments, and the closing tag.
-          pub at-opened : (l : Language) → Indexed index s l
+          pub at_opened : (l : Language) → Indexed index s l
               → rest_of (read_text l levels k (drop at text)) ≡ then_rest (row_rest l (levels - 1) s q e (drop a text)) (λ u. rest_of (read_word (closes at (a - at + 1) text) u))
           unfolding read_element read_operands
-          at-opened l z =
+          at_opened l z =
               ap rest_of (element l z
-              ∙ (ap (λ (o : Read ℕ). and_then o λ p r. read_operands (read_text l (levels - 1)) k p (arguments_of l k p) r) is-element.opens.reads
+              ∙ (ap (λ (o : Read ℕ). and_then o λ p r. read_operands (read_text l (levels - 1)) k p (arguments_of l k p) r) is_element.opens.reads
               ∙ ap (λ (o : Option (List ℕ)). read_operands (read_text l (levels - 1)) k p o (drop a text)) (known l z)))
               ∙ then_rest_lem (read_all (read_text l (levels - 1)) (slice q e s) (drop a text)) (λ t r. and_then (read_closing k p r) λ u r. done (node k p t) r)
               (λ u. rest_of (read_word (closes at (a - at + 1) text) u))

@@ -8,7 +8,7 @@ use native.Mathlib.Omega.{arith}
 use Rattle.format_fields.proofs.Truth.{by_test, none_some}
 use Rattle.format_language.specs.Language.{Language, Range, range_of, arguments_of, in_range}
 use Rattle.tree_reader.specs.Code.{Code, node, token, argument, Codes, nil, cons, levels, levels_all}
-use Rattle.tree_reader.specs.Typing.{kind_at, Typed, TypedAll, typed-node, typed-token, typed-argument, typed-nil, typed-cons}
+use Rattle.tree_reader.specs.Typing.{kind_at, Typed, TypedAll, typed_node, typed_token, typed_argument, typed_nil, typed_cons}
 use Rattle.tree_reader.specs.Syntax.{Read, done, deep, broken, and_then, read_all}
 use Rattle.tree_reader.proofs.RoundTrip.{Apart}
 use Rattle.format_fields.specs.Decimal.{decimal}
@@ -111,18 +111,18 @@ module _ (l : Language) where
 
       -- Reading an export gives the tree.
       pub round : {a : Code} {k : ℕ} → Typed l [] a k → (n : ℕ) (r : List ℕ) → levels a ≤ n → read_text l n k (export l k a ++ r) ≡ done a r
-      round (typed-node e h) zero r d = absurd (omega arith)
-      round (typed-node {k = k} {p = p} {t = t} {ks = ks} e h) (suc n) r d =
+      round (typed_node e h) zero r d = absurd (omega arith)
+      round (typed_node {k = k} {p = p} {t = t} {ks = ks} e h) (suc n) r d =
           rw (node_parts k k p t ks r e)
-          (element_text n k p ks t (export_all l ks t) r (apart k p ks e) e (roundAll h n (node_tag close_node k p ++ r) (omega arith)))
-      round (typed-token {v = v} {k = k} {c = c} e h) n r d = token_text n k v c r e h
-      round (typed-argument {i = i} {j = j} e) n r d = no_kind i j e
+          (element_text n k p ks t (export_all l ks t) r (apart k p ks e) e (round_all h n (node_tag close_node k p ++ r) (omega arith)))
+      round (typed_token {v = v} {k = k} {c = c} e h) n r d = token_text n k v c r e h
+      round (typed_argument {i = i} {j = j} e) n r d = no_kind i j e
 
-      pub roundAll : {t : Codes} {ks : List ℕ} → TypedAll l [] t ks → (n : ℕ) (r : List ℕ) → levels_all t ≤ n
+      pub round_all : {t : Codes} {ks : List ℕ} → TypedAll l [] t ks → (n : ℕ) (r : List ℕ) → levels_all t ≤ n
           → read_all (read_text l n) ks (export_all l ks t ++ r) ≡ done t r
-      roundAll typed-nil n r d = refl
-      roundAll (typed-cons {a = a} {k = k} {t = t} {ks = ks} h hs) n r d =
-          rw (append_assoc, round h n (export_all l ks t ++ r) (omega arith), roundAll hs n r (omega arith))
+      round_all typed_nil n r d = refl
+      round_all (typed_cons {a = a} {k = k} {t = t} {ks = ks} h hs) n r d =
+          rw (append_assoc, round h n (export_all l ks t ++ r) (omega arith), round_all hs n r (omega arith))
 
 -- Tags that were read are what is written.
 pub opening_sound : (k : ℕ) (s : List ℕ) (p : ℕ) (r : List ℕ) → read_opening k s ≡ done p r → s ≡ node_tag open_node k p ++ r
@@ -173,7 +173,7 @@ module _ (l : Language) where
       let w = same_done (token y.0) a z.1 r z.3 in
       let q : z.1 ≡ r = w.1 in
       rw (← w.0) (
-        typed-token h d,
+        typed_token h d,
         omega arith,
         tag_sound open_token k s x.1 x.2
             ∙ (ap (λ (u : List ℕ). token_tag open_token k ++ u) (number_sound x.1 y.0 y.1 y.2
@@ -186,7 +186,7 @@ module _ (l : Language) where
     all_sound : (ks s : List ℕ) (t : Codes) (r : List ℕ) → read_all reads ks s ≡ done t r
         → TypedAll l [] t ks × (levels_all t ≤ n) × (s ≡ export_all l ks t ++ r)
     unfolding read_all export_all levels
-    all_sound [] s t r e = let w = same_done nil t s r e in rw (← w.0) (typed-nil, omega arith, w.1)
+    all_sound [] s t r e = let w = same_done nil t s r e in rw (← w.0) (typed_nil, omega arith, w.1)
     all_sound (k ∷ ks) s t r e =
         let x = then_done (reads k s) _ t r e in
         let y = then_done (read_all reads ks x.1) _ t r x.3 in
@@ -195,33 +195,33 @@ module _ (l : Language) where
         let g = right k s x.0 x.1 x.2 in
         let h = all_sound ks x.1 y.0 y.1 y.2 in
         rw (← w.0) (
-          typed-cons g.0 h.0,
+          typed_cons g.0 h.0,
           omega (arith, g.1, h.1),
           g.2 ∙ (ap (λ (u : List ℕ). export l k x.0 ++ u) (h.2 ∙ ap (λ (u : List ℕ). export_all l ks y.0 ++ u) q) ∙ sym (append_assoc (export l k x.0) (export_all l ks y.0) r)),
         )
 
-    operands-sound : (k p : ℕ) (o : Option (List ℕ)) (s : List ℕ) (a : Code) (r : List ℕ) → arguments_of l k p ≡ o → read_operands reads k p o s ≡ done a r
+    operands_sound : (k p : ℕ) (o : Option (List ℕ)) (s : List ℕ) (a : Code) (r : List ℕ) → arguments_of l k p ≡ o → read_operands reads k p o s ≡ done a r
         → Right (suc n) k (node_tag open_node k p ++ s) a r
     unfolding read_operands levels
-    operands-sound k p none s a r h e = broken_not e
-    operands-sound k p (some ks) s a r h e =
+    operands_sound k p none s a r h e = broken_not e
+    operands_sound k p (some ks) s a r h e =
         let x = then_done (read_all reads ks s) _ a r e in
         let y = then_done (read_closing k p x.1) _ a r x.3 in
         let w = same_done (node k p x.0) a y.1 r y.3 in
         let q : y.1 ≡ r = w.1 in
         let g = all_sound ks s x.0 x.1 x.2 in
         rw (← w.0) (
-          typed-node h g.0,
+          typed_node h g.0,
           omega (arith, g.1),
           ap (λ (u : List ℕ). node_tag open_node k p ++ u) (g.2 ∙ ap (λ (u : List ℕ). export_all l ks x.0 ++ u) (closing_sound k p x.1 y.1 y.2 ∙ ap (λ (u : List ℕ). node_tag close_node k p ++ u) q))
               ∙ sym (node_parts l k k p x.0 ks r h),
         )
 
-    element-sound : (k : ℕ) (s : List ℕ) (a : Code) (r : List ℕ) → read_element reads l k s ≡ done a r → Right (suc n) k s a r
+    element_sound : (k : ℕ) (s : List ℕ) (a : Code) (r : List ℕ) → read_element reads l k s ≡ done a r → Right (suc n) k s a r
     unfolding read_element
-    element-sound k s a r e =
+    element_sound k s a r e =
         let x = then_done (read_opening k s) _ a r e in
-        rw (opening_sound k s x.0 x.1 x.2) (operands-sound k x.0 (arguments_of l k x.0) x.1 a r refl x.3)
+        rw (opening_sound k s x.0 x.1 x.2) (operands_sound k x.0 (arguments_of l k x.0) x.1 a r refl x.3)
 
   -- What was read is the export of the tree that it gave, a legal tree within the levels.
   pub sound : (n k : ℕ) (s : List ℕ) (a : Code) (r : List ℕ) → read_text l n k s ≡ done a r → Right n k s a r
@@ -231,7 +231,7 @@ module _ (l : Language) where
       go : (o : Option Range) → range_of l k ≡ o → (elim o [ some c ↦ read_token k c s | none ↦ deep ]) ≡ done a r → Right 0 k s a r
       go none h f = deep_not f
       go (some c) h f = token_sound 0 k c s a r h f
-  sound (suc n) k s a r e = go (λ f. element-sound n (read_text l n) (λ j u b v g. sound n j u b v g) k s a r f) (range_of l k) refl e
+  sound (suc n) k s a r e = go (λ f. element_sound n (read_text l n) (λ j u b v g. sound n j u b v g) k s a r f) (range_of l k) refl e
     where
       go : (read_element (read_text l n) l k s ≡ done a r → Right (suc n) k s a r) → (o : Option Range) → range_of l k ≡ o → (elim o [ some c ↦ read_token k c s | none ↦ read_element (read_text l n) l k s ]) ≡ done a r
           → Right (suc n) k s a r

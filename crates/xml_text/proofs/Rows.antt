@@ -30,8 +30,8 @@ use Rattle.xml_text.specs.declared.import.Text.TheVariants.{End, Deep, Broken}
 use Rattle.xml_text.specs.Inner.Scanning.{closes, Stands, Tokens, TellsToken}
 use Rattle.xml_text.specs.Inner.Importing.{Inside, Imports, Elements, ImportsTree, row_kinds}
 use Rattle.xml_text.proofs.Scans.{tokens_not, class_high}
-use Rattle.xml_text.proofs.Imports.{then_rest, row_rest, rest_made, then_rest_lem, inside_deep, inside_broken, inside_end, imports_deep, imports_broken, imports_end, at_token, at-no-token, at-deep, at-no-element, at-kinds, at-past, at-opened}
-use Rattle.xml_text.proofs.Unwinding.{unwindBy, unwind_stop, unwind_none, unwind_one, unwind_same}
+use Rattle.xml_text.proofs.Imports.{then_rest, row_rest, rest_made, then_rest_lem, inside_deep, inside_broken, inside_end, imports_deep, imports_broken, imports_end, at_token, at_no_token, at_deep, at_no_element, at_kinds, at_past, at_opened}
+use Rattle.xml_text.proofs.Unwinding.{unwind_by, unwind_stop, unwind_none, unwind_one, unwind_same}
 
 -- kind_at
 pub root_kind : (k : ℕ) (s : List ℕ) (d q : ℕ) → q < length (row_kinds k s d) → d ≡ 0 → k ≡ get_or (row_kinds k s d) q 0
@@ -71,7 +71,7 @@ module _ (l : Language) (levels : ℕ) (kinds : List ℕ) (q e : ℕ) (u : List 
 
 -- The rows that wait.
 abbrev unwind : (ℕ → List ℕ → Rest) → ℕ → Rest → Rest
-unwind = unwindBy then_rest
+unwind = unwind_by then_rest
 
 unwind_deep : (f : ℕ → List ℕ → Rest) (d : ℕ) → unwind f d deep ≡ deep
 unwind_deep f d = unwind_stop then_rest f d deep (λ h. refl)
@@ -188,9 +188,9 @@ module _ (s index : List ℕ) (k : ℕ) (text : List ℕ) where
           ∙ (ap (left l) (sym (row_done l (tree_levels - d) (row_kinds k s d) q e (drop to text) done-row)) ∙ o.comes l z))
 
       module _ {x : Place} (stands : Stands (read_word (closes (get_or tags c 0) (get_or sizes c 0) text) (drop to text)) text to x) where
-        pub open-unclosed : x ≡ Nothing → Answers Broken
+        pub open_unclosed : x ≡ Nothing → Answers Broken
         unfolding goes_on
-        open-unclosed h = (
+        open_unclosed h = (
           inside_broken text,
           λ l z. rest_broken (read_text l tree_levels k text) text
               (sym (unwind_broken (waits_in l k s text firsts lasts tags sizes) c)
@@ -198,9 +198,9 @@ module _ (s index : List ℕ) (k : ℕ) (text : List ℕ) where
               ∙ above l z)),
         )
 
-        pub open-back : {t : ℕ} → x ≡ At t → Open s index k text firsts lasts tags sizes c (get_or firsts c 0) (get_or lasts c 0) t
+        pub open_back : {t : ℕ} → x ≡ At t → Open s index k text firsts lasts tags sizes c (get_or firsts c 0) (get_or lasts c 0) t
         unfolding goes_on
-        open-back {t} h =
+        open_back {t} h =
             record {
               inside = (stands.reached t h).inside;
               shallow = omega (arith, o.shallow);
@@ -220,12 +220,12 @@ module _ (s index : List ℕ) (k : ℕ) (text : List ℕ) where
       pub open_in : (q < length (row_kinds k s d)) × (get_or (row_kinds k s d) q 0 < 32) × (e ≤ length (row_kinds k s d))
       open_in = row_in (row_kinds k s d) q e o.kinds more
 
-      pub open-short : length s ≤ 1024 → (q < 1024) × (e ≤ 1024)
-      open-short short = let w = row_long k s d short in let z = open_in in (omega (arith, z.0), omega (arith, z.2))
+      pub open_short : length s ≤ 1024 → (q < 1024) × (e ≤ 1024)
+      open_short short = let w = row_long k s d short in let z = open_in in (omega (arith, z.0), omega (arith, z.2))
 
       module _ {n : ℕ} (en : n ≡ get_or (row_kinds k s d) q 0) where
-        pub open-kind : n < 32
-        open-kind = let z = open_in in omega (arith, z.1)
+        pub open_kind : n < 32
+        open_kind = let z = open_in in omega (arith, z.1)
 
         next : (l : Language) → row l q e (drop to text) ≡ then_rest (rest_of (read_text l (tree_levels - d) n (drop to text))) (row l (q + 1) e)
         next l =
@@ -233,14 +233,14 @@ module _ (s index : List ℕ) (k : ℕ) (text : List ℕ) where
             ∙ ap (λ (j : ℕ). then_rest (rest_of (read_text l (tree_levels - d) j (drop to text))) (row l (q + 1) e)) (sym en)
 
         module _ {y : Text} (step : ImportsTree s index n text to (tree_levels - d) y) where
-          open-broken : y ≡ Broken → Answers Broken
-          open-broken h = (
+          open_broken : y ≡ Broken → Answers Broken
+          open_broken h = (
             inside_broken text,
             λ l z. broken_is l z (next l ∙ ap (λ (p : Read Code). then_rest (rest_of p) (row l (q + 1) e)) ((step l z).broken h)),
           )
 
-          open-deep : y ≡ Deep → Answers Deep
-          open-deep h = (
+          open_deep : y ≡ Deep → Answers Deep
+          open_deep h = (
             inside_deep text,
             λ l z. rest_deep (read_text l tree_levels k text) text
                 (sym (unwind_deep (waits_in l k s text firsts lasts tags sizes) d)
@@ -265,31 +265,31 @@ module _ (s index : List ℕ) (k : ℕ) (text : List ℕ) where
         module _ (bytes : (i : ℕ) → get_or s i 0 < 256) {j class : ℕ} (ej : j ≡ n) (ec : class ≡ get_or index j 0) where
           -- A token.
           module _ (some_class : class ≡ 0 → ⊥) {x : Number} (token_is : Tokens (read_token n (class_range s (class - 1)) (drop to text)) text (to + 2) x) where
-            pub turn-no-token : x ≡ N.Nothing → Answers Broken
-            turn-no-token h = open-broken (at-no-token s index text n to (tree_levels - d) open-kind bytes ej ec some_class token_is h) refl
+            pub turn_no_token : x ≡ N.Nothing → Answers Broken
+            turn_no_token h = open_broken (at_no_token s index text n to (tree_levels - d) open_kind bytes ej ec some_class token_is h) refl
 
-            pub turn-token : {v t : ℕ} → x ≡ N.Is v t → Open s index k text firsts lasts tags sizes d (q + 1) e t
-            turn-token {v} {t} h =
-                open_next (at_token s index text n to (tree_levels - d) open-kind bytes ej ec some_class token_is h) refl (token_is.reached v t h).inside
+            pub turn_token : {v t : ℕ} → x ≡ N.Is v t → Open s index k text firsts lasts tags sizes d (q + 1) e t
+            turn_token {v} {t} h =
+                open_next (at_token s index text n to (tree_levels - d) open_kind bytes ej ec some_class token_is h) refl (token_is.reached v t h).inside
 
           -- No token stands where one should.
-          pub turn-not : (class ≡ 0 → ⊥) → {r : Bool} → TellsToken class text to r → r ≡ false → Answers Broken
-          turn-not some_class tells h = turn-no-token some_class (tokens_not (tells.none h some_class n (class_range s (class - 1)) (class_high s (class - 1) bytes))) refl
+          pub turn_not : (class ≡ 0 → ⊥) → {r : Bool} → TellsToken class text to r → r ≡ false → Answers Broken
+          turn_not some_class tells h = turn_no_token some_class (tokens_not (tells.none h some_class n (class_range s (class - 1)) (class_high s (class - 1) bytes))) refl
 
           module _ (no : class ≡ 0) where
-            pub turn-deep : d ≡ 64 → Answers Deep
-            turn-deep h = open-deep (at-deep s index text n to (tree_levels - d) open-kind bytes ej ec no (omega arith)) refl
+            pub turn_deep : d ≡ 64 → Answers Deep
+            turn_deep h = open_deep (at_deep s index text n to (tree_levels - d) open_kind bytes ej ec no (omega arith)) refl
 
             module _ (some_level : d ≡ 64 → ⊥) {x : Element} (elements : Elements s index n text to x) where
-              levels-left : tree_levels - d ≡ 0 → ⊥
-              levels-left h = some_level (omega (arith, o.shallow))
+              levels_left : tree_levels - d ≡ 0 → ⊥
+              levels_left h = some_level (omega (arith, o.shallow))
 
-              pub turn-no-element : x ≡ E.Nothing → Answers Broken
-              turn-no-element h = open-broken (at-no-element s index text n to (tree_levels - d) open-kind bytes ej ec no levels-left elements h) refl
+              pub turn_no_element : x ≡ E.Nothing → Answers Broken
+              turn_no_element h = open_broken (at_no_element s index text n to (tree_levels - d) open_kind bytes ej ec no levels_left elements h) refl
 
               module _ {first last a : ℕ} (ex : x ≡ E.Of first last a) where
-                pub turn-past : (to + 2 ≤ a) × (a ≤ length text)
-                turn-past = at-past s index text n to (tree_levels - d) open-kind bytes ej ec no levels-left elements ex
+                pub turn_past : (to + 2 ≤ a) × (a ≤ length text)
+                turn_past = at_past s index text n to (tree_levels - d) open_kind bytes ej ec no levels_left elements ex
 
                 abbrev size : ℕ
                 size = a - to + 1
@@ -317,7 +317,7 @@ module _ (s index : List ℕ) (k : ℕ) (text : List ℕ) where
                 unfolding goes_on
                 down l z =
                     next l
-                    ∙ (ap (λ (r : Rest). then_rest r (row l (q + 1) e)) (at-opened s index text n to (tree_levels - d) open-kind bytes ej ec no levels-left elements ex l z)
+                    ∙ (ap (λ (r : Rest). then_rest r (row l (q + 1) e)) (at_opened s index text n to (tree_levels - d) open_kind bytes ej ec no levels_left elements ex l z)
                     ∙ then_then (row_rest l (tree_levels - d - 1) s first last (drop a text)) (λ u. rest_of (read_word (closes to size text) u)) (row l (q + 1) e))
 
                 pushed : (l : Language) → Indexed index s l → unwind (then l) (d + 1) (row_rest l (tree_levels - (d + 1)) (row_kinds k s (d + 1)) first last (drop a text)) ≡ rest_of (read_text l tree_levels k text)
@@ -344,8 +344,8 @@ module _ (s index : List ℕ) (k : ℕ) (text : List ℕ) where
                     let hl : d < length lasts = omega (arith, o.last_long) in
                     let ht : d < length tags = omega (arith, o.tag_long) in
                     let hs : d < length sizes = omega (arith, o.size_long) in
-                    let w = open-short short in
-                    let v = turn-past in
+                    let w = open_short short in
+                    let v = turn_past in
                     rw (y, get_or-set_same firsts d (q + 1) 0 hf, get_or-set_same lasts d e 0 hl, get_or-set_same tags d to 0 ht, get_or-set_same sizes d size 0 hs)
                     (record {
                       from = omega (arith, w.0);
@@ -358,13 +358,13 @@ module _ (s index : List ℕ) (k : ℕ) (text : List ℕ) where
                     let y : i ≡ d → ⊥ = eqb-false i d t in
                     rw (get_or-set_other firsts d i (q + 1) 0 y, get_or-set_other lasts d i e 0 y, get_or-set_other tags d i to 0 y, get_or-set_other sizes d i size 0 y) (o.waiting i (omega arith)))
 
-                pub turn-down : length s ≤ 1024
+                pub turn_down : length s ≤ 1024
                     → Open s index k text (set firsts d (q + 1)) (set lasts d e) (set tags d to) (set sizes d size) (d + 1) first last a
-                turn-down short =
+                turn_down short =
                     record {
-                      inside = turn-past.1;
+                      inside = turn_past.1;
                       shallow = omega (arith, o.shallow, some_level);
-                      kinds = rw (below_root k s (d + 1) (λ y. omega arith)) (at-kinds s index text n to (tree_levels - d) open-kind bytes ej ec no levels-left elements ex);
+                      kinds = rw (below_root k s (d + 1) (λ y. omega arith)) (at_kinds s index text n to (tree_levels - d) open_kind bytes ej ec no levels_left elements ex);
                       waiting = waits short;
                       first_long = length-set firsts d (q + 1) ∙ o.first_long;
                       last_long = length-set lasts d e ∙ o.last_long;

@@ -88,15 +88,15 @@ module _ (w text : List ℕ) (at : ℕ) (inside : at ≤ length text) where
       next : at + i + 1 ≡ at + (i + 1)
       next = omega arith
 
-      pub word-differs : (get_or text (at + i) 0 ≡ get_or w i 0 → ⊥) → Stands (read_word w (drop at text)) text (at + length w) Nothing
+      pub word_differs : (get_or text (at + i) 0 ≡ get_or w i 0 → ⊥) → Stands (read_word w (drop at text)) text (at + length w) Nothing
       unfolding read_word
-      word-differs h =
+      word_differs h =
           let d = ne_eqb (get_or text (at + i) 0) (get_or w i 0) h in
           stands_not (going ∙ rw (front w i more, front text (at + i) there) (cc))
 
-      pub word-again : get_or text (at + i) 0 ≡ get_or w i 0 → read_word w (drop at text) ≡ read_word (drop (i + 1) w) (drop (at + (i + 1)) text)
+      pub word_again : get_or text (at + i) 0 ≡ get_or w i 0 → read_word w (drop at text) ≡ read_word (drop (i + 1) w) (drop (at + (i + 1)) text)
       unfolding read_word
-      word-again h =
+      word_again h =
           let d = eq-eqb (get_or text (at + i) 0) (get_or w i 0) h in
           going ∙ rw (front w i more, front text (at + i) there, ← next) (cc)
 
@@ -125,52 +125,52 @@ module _ (text : List ℕ) (at : ℕ) where
   number_end h = let z : broken ≡ read_number (drop at text) = cc (drop_of_length-le text {i = at} h) in numbers_not (rw (← z) tt)
 
   module _ (there : at < length text) where
-    pub number-zero : get_or text at 0 ≡ 48 → Numbers (read_number (drop at text)) text at (N.Is 0 (at + 1))
+    pub number_zero : get_or text at 0 ≡ 48 → Numbers (read_number (drop at text)) text at (N.Is 0 (at + 1))
     unfolding read_number
-    number-zero h = numbers_is (cc (front text at there)) (omega arith) (omega arith) (omega arith)
+    number_zero h = numbers_is (cc (front text at there)) (omega arith) (omega arith) (omega arith)
 
     module _ {x : Bool} (nonzero : get_or text at 0 ≡ 48 → ⊥) (ex : x ≡ is_digit (get_or text at 0)) where
-      pub number-other : x ≡ false → Numbers (read_number (drop at text)) text at N.Nothing
+      pub number_other : x ≡ false → Numbers (read_number (drop at text)) text at N.Nothing
       unfolding read_number
-      number-other h =
+      number_other h =
           let z : broken ≡ read_number (drop at text) = cc (front text at there, ne_eqb (get_or text at 0) 48 nonzero) in
           numbers_not (rw (← z) tt)
 
       pub first_range : x ≡ true → (48 ≤ get_or text at 0) × (get_or text at 0 ≤ 57)
       first_range h = digit_range (get_or text at 0) (sym ex ∙ h)
 
-      pub number-start : {b : ℕ} → x ≡ true → b ≡ get_or text at 0 → read_number (drop at text) ≡ read_digits (b - 48) (drop (at + 1) text)
+      pub number_start : {b : ℕ} → x ≡ true → b ≡ get_or text at 0 → read_number (drop at text) ≡ read_digits (b - 48) (drop (at + 1) text)
       unfolding read_number
-      number-start h e = cc (front text at there, ne_eqb (get_or text at 0) 48 nonzero)
+      number_start h e = cc (front text at there, ne_eqb (get_or text at 0) 48 nonzero)
 
   module _ (value to : ℕ) (going : read_number (drop at text) ≡ read_digits value (drop to text)) (small : value < 65536) (past : at ≤ to) where
-    pub number-last : to ≤ length text → length text ≤ to → Numbers (read_number (drop at text)) text at (N.Is value to)
+    pub number_last : to ≤ length text → length text ≤ to → Numbers (read_number (drop at text)) text at (N.Is value to)
     unfolding read_digits
-    number-last i h =
+    number_last i h =
         let z = drop_of_length-le text {i = to} h in
         numbers_is (going ∙ (ap (read_digits value) z ∙ ap (done value) (sym z))) small past i
 
     module _ (there : to < length text) {x : Bool} (ex : x ≡ is_digit (get_or text to 0)) where
-      pub number-stops : x ≡ false → Numbers (read_number (drop at text)) text at (N.Is value to)
+      pub number_stops : x ≡ false → Numbers (read_number (drop at text)) text at (N.Is value to)
       unfolding read_digits
-      number-stops h =
+      number_stops h =
           let f = front text to there in
           let z : read_digits value (drop to text) ≡ done value (drop to text) = rw f (cc) in
           numbers_is (going ∙ z) small past (omega arith)
 
-      pub next-range : x ≡ true → (48 ≤ get_or text to 0) × (get_or text to 0 ≤ 57)
-      next-range h = digit_range (get_or text to 0) (sym ex ∙ h)
+      pub next_range : x ≡ true → (48 ≤ get_or text to 0) × (get_or text to 0 ≤ 57)
+      next_range h = digit_range (get_or text to 0) (sym ex ∙ h)
 
-      pub number-again : {b : ℕ} → x ≡ true → b ≡ get_or text to 0 → read_number (drop at text) ≡ read_digits (value * 10 + (b - 48)) (drop (to + 1) text)
+      pub number_again : {b : ℕ} → x ≡ true → b ≡ get_or text to 0 → read_number (drop at text) ≡ read_digits (value * 10 + (b - 48)) (drop (to + 1) text)
       unfolding read_digits
-      number-again h e = going ∙ cc (front text to there)
+      number_again h e = going ∙ cc (front text to there)
 
-      pub number-on : {b : ℕ} (j : ℕ) → x ≡ true → b ≡ get_or text to 0 → to + 1 ≡ j → read_number (drop at text) ≡ read_digits (value * 10 + (b - 48)) (drop j text)
-      number-on {b} j h e f = number-again h e ∙ ap (λ (n : ℕ). read_digits (value * 10 + (b - 48)) (drop n text)) f
+      pub number_on : {b : ℕ} (j : ℕ) → x ≡ true → b ≡ get_or text to 0 → to + 1 ≡ j → read_number (drop at text) ≡ read_digits (value * 10 + (b - 48)) (drop j text)
+      number_on {b} j h e f = number_again h e ∙ ap (λ (n : ℕ). read_digits (value * 10 + (b - 48)) (drop n text)) f
 
-      pub number-large : {b : ℕ} → x ≡ true → b ≡ get_or text to 0 → 65535 < value * 10 + (b - 48) → Numbers (read_number (drop at text)) text at N.Nothing
-      number-large {b} h e g =
-          let z = number-again h e in
+      pub number_large : {b : ℕ} → x ≡ true → b ≡ get_or text to 0 → 65535 < value * 10 + (b - 48) → Numbers (read_number (drop at text)) text at N.Nothing
+      number_large {b} h e g =
+          let z = number_again h e in
           numbers_not (rw z (no_more (drop (to + 1) text) (value * 10 + (b - 48)) (omega arith)))
 
 -- A number of one digit, and what is none.
@@ -183,14 +183,14 @@ module _ (text : List ℕ) (at : ℕ) where
   number_one more first second =
       let w = digit_range (get_or text at 0) first in
       by_test (eqb (get_or text at 0) 48)
-      (λ t. let z : get_or text at 0 - 48 ≡ 0 = omega (arith, eqb-true (get_or text at 0) 48 t) in rw z (number-zero text at (omega arith) (eqb-true (get_or text at 0) 48 t)))
+      (λ t. let z : get_or text at 0 - 48 ≡ 0 = omega (arith, eqb-true (get_or text at 0) 48 t) in rw z (number_zero text at (omega arith) (eqb-true (get_or text at 0) 48 t)))
       (λ t.
-      number-stops text at (get_or text at 0 - 48) (at + 1) (number-start text at (omega arith) {x = true} (eqb-false (get_or text at 0) 48 t) (sym first) refl refl)
+      number_stops text at (get_or text at 0 - 48) (at + 1) (number_start text at (omega arith) {x = true} (eqb-false (get_or text at 0) 48 t) (sym first) refl refl)
       (omega (arith, w.1)) (omega arith) more refl second)
 
   pub number_none : at < length text → is_digit (get_or text at 0) ≡ false → Numbers (read_number (drop at text)) text at N.Nothing
   unfolding is_digit
-  number_none more h = number-other text at more (λ e. true_false (sym (ap is_digit e) ∙ h)) refl h
+  number_none more h = number_other text at more (λ e. true_false (sym (ap is_digit e) ∙ h)) refl h
 
 pub end_no_digit : {b : ℕ} → b ≡ 62 → is_digit b ≡ false
 unfolding is_digit
@@ -241,53 +241,53 @@ module _ (sign end k : ℕ) (text : List ℕ) (at : ℕ) (long : at + 5 ≤ leng
   begin_first h = stands_not (byte_not text 60 _ at (omega arith) h)
 
   module _ (first : get_or text at 0 ≡ 60) where
-    pub begin-second : (get_or text (at + 1) 0 ≡ sign → ⊥) → Begins Nothing
+    pub begin_second : (get_or text (at + 1) 0 ≡ sign → ⊥) → Begins Nothing
     unfolding begins
-    begin-second h = stands_not (byte_is text 60 _ at (omega arith) (at + 1) first refl ∙ byte_not text sign _ (at + 1) (omega arith) h)
+    begin_second h = stands_not (byte_is text 60 _ at (omega arith) (at + 1) first refl ∙ byte_not text sign _ (at + 1) (omega arith) h)
 
     module _ (second : get_or text (at + 1) 0 ≡ sign) where
-      kind-left : {d : List ℕ} → decimal k ≡ d → read_word (begins sign k end) (drop at text) ≡ read_word (d ++ (end ∷ [])) (drop (at + 2) text)
+      kind_left : {d : List ℕ} → decimal k ≡ d → read_word (begins sign k end) (drop at text) ≡ read_word (d ++ (end ∷ [])) (drop (at + 2) text)
       unfolding begins
-      kind-left e =
+      kind_left e =
           byte_is text 60 _ at (omega arith) (at + 1) first refl
           ∙ (byte_is text sign _ (at + 1) (omega arith) (at + 2) second (omega arith) ∙ ap (λ (d : List ℕ). read_word (d ++ (end ∷ [])) (drop (at + 2) text)) e)
 
       module _ (small : k < 10) where
-        pub begin-digit : (get_or text (at + 2) 0 ≡ 48 + k → ⊥) → Begins Nothing
-        begin-digit h = stands_not (kind-left (decimal_small k small) ∙ byte_not text (48 + k) _ (at + 2) (omega arith) h)
+        pub begin_digit : (get_or text (at + 2) 0 ≡ 48 + k → ⊥) → Begins Nothing
+        begin_digit h = stands_not (kind_left (decimal_small k small) ∙ byte_not text (48 + k) _ (at + 2) (omega arith) h)
 
         module _ (third : get_or text (at + 2) 0 ≡ 48 + k) where
-          end-left : read_word (begins sign k end) (drop at text) ≡ read_word (end ∷ []) (drop (at + 3) text)
-          end-left = kind-left (decimal_small k small) ∙ byte_is text (48 + k) _ (at + 2) (omega arith) (at + 3) third (omega arith)
+          end_left : read_word (begins sign k end) (drop at text) ≡ read_word (end ∷ []) (drop (at + 3) text)
+          end_left = kind_left (decimal_small k small) ∙ byte_is text (48 + k) _ (at + 2) (omega arith) (at + 3) third (omega arith)
 
-          pub begin-end : (get_or text (at + 3) 0 ≡ end → ⊥) → Begins Nothing
-          begin-end h = stands_not (end-left ∙ byte_not text end [] (at + 3) (omega arith) h)
+          pub begin_end : (get_or text (at + 3) 0 ≡ end → ⊥) → Begins Nothing
+          begin_end h = stands_not (end_left ∙ byte_not text end [] (at + 3) (omega arith) h)
 
-          pub begin-done : get_or text (at + 3) 0 ≡ end → Begins (At (at + 4))
+          pub begin_done : get_or text (at + 3) 0 ≡ end → Begins (At (at + 4))
           unfolding read_word
-          begin-done h = stands_at (end-left ∙ byte_is text end [] (at + 3) (omega arith) (at + 4) h (omega arith)) (omega arith) (omega arith)
+          begin_done h = stands_at (end_left ∙ byte_is text end [] (at + 3) (omega arith) (at + 4) h (omega arith)) (omega arith) (omega arith)
 
       module _ (large : 10 ≤ k) (two : k < 100) where
-        pub begin-tens : (get_or text (at + 2) 0 ≡ 48 + k / 10 → ⊥) → Begins Nothing
-        begin-tens h = stands_not (kind-left (decimal_two k large two) ∙ byte_not text (48 + k / 10) _ (at + 2) (omega arith) h)
+        pub begin_tens : (get_or text (at + 2) 0 ≡ 48 + k / 10 → ⊥) → Begins Nothing
+        begin_tens h = stands_not (kind_left (decimal_two k large two) ∙ byte_not text (48 + k / 10) _ (at + 2) (omega arith) h)
 
         module _ (third : get_or text (at + 2) 0 ≡ 48 + k / 10) where
-          ones-left : read_word (begins sign k end) (drop at text) ≡ read_word ((48 + k % 10) ∷ end ∷ []) (drop (at + 3) text)
-          ones-left = kind-left (decimal_two k large two) ∙ byte_is text (48 + k / 10) _ (at + 2) (omega arith) (at + 3) third (omega arith)
+          ones_left : read_word (begins sign k end) (drop at text) ≡ read_word ((48 + k % 10) ∷ end ∷ []) (drop (at + 3) text)
+          ones_left = kind_left (decimal_two k large two) ∙ byte_is text (48 + k / 10) _ (at + 2) (omega arith) (at + 3) third (omega arith)
 
-          pub begin-ones : (get_or text (at + 3) 0 ≡ 48 + k % 10 → ⊥) → Begins Nothing
-          begin-ones h = stands_not (ones-left ∙ byte_not text (48 + k % 10) _ (at + 3) (omega arith) h)
+          pub begin_ones : (get_or text (at + 3) 0 ≡ 48 + k % 10 → ⊥) → Begins Nothing
+          begin_ones h = stands_not (ones_left ∙ byte_not text (48 + k % 10) _ (at + 3) (omega arith) h)
 
           module _ (fourth : get_or text (at + 3) 0 ≡ 48 + k % 10) where
-            last-left : read_word (begins sign k end) (drop at text) ≡ read_word (end ∷ []) (drop (at + 4) text)
-            last-left = ones-left ∙ byte_is text (48 + k % 10) _ (at + 3) (omega arith) (at + 4) fourth (omega arith)
+            last_left : read_word (begins sign k end) (drop at text) ≡ read_word (end ∷ []) (drop (at + 4) text)
+            last_left = ones_left ∙ byte_is text (48 + k % 10) _ (at + 3) (omega arith) (at + 4) fourth (omega arith)
 
-            pub begin-last : (get_or text (at + 4) 0 ≡ end → ⊥) → Begins Nothing
-            begin-last h = stands_not (last-left ∙ byte_not text end [] (at + 4) (omega arith) h)
+            pub begin_last : (get_or text (at + 4) 0 ≡ end → ⊥) → Begins Nothing
+            begin_last h = stands_not (last_left ∙ byte_not text end [] (at + 4) (omega arith) h)
 
-            pub begin-both : get_or text (at + 4) 0 ≡ end → Begins (At (at + 5))
+            pub begin_both : get_or text (at + 4) 0 ≡ end → Begins (At (at + 5))
             unfolding read_word
-            begin-both h = stands_at (last-left ∙ byte_is text end [] (at + 4) (omega arith) (at + 5) h (omega arith)) (omega arith) (omega arith)
+            begin_both h = stands_at (last_left ∙ byte_is text end [] (at + 4) (omega arith) (at + 5) h (omega arith)) (omega arith) (omega arith)
 
 -- same_at
 module _ (text : List ℕ) (tag size at : ℕ) (some : 2 ≤ size) (known : tag + size ≤ length text + 1) where
@@ -310,34 +310,34 @@ module _ (text : List ℕ) (tag size at : ℕ) (some : 2 ≤ size) (known : tag 
   closes_short h = stands_not (word_cut (closes tag size text) (drop at text) (omega (arith, length-drop at text, closes_long)))
 
   module _ (long : at + size ≤ length text) where
-    pub closes-first : (get_or text at 0 ≡ 60 → ⊥) → Closes Nothing
+    pub closes_first : (get_or text at 0 ≡ 60 → ⊥) → Closes Nothing
     unfolding closes
-    closes-first h = stands_not (byte_not text 60 _ at (omega arith) h)
+    closes_first h = stands_not (byte_not text 60 _ at (omega arith) h)
 
     module _ (first : get_or text at 0 ≡ 60) where
-      pub closes-second : (get_or text (at + 1) 0 ≡ 47 → ⊥) → Closes Nothing
+      pub closes_second : (get_or text (at + 1) 0 ≡ 47 → ⊥) → Closes Nothing
       unfolding closes
-      closes-second h = stands_not (byte_is text 60 _ at (omega arith) (at + 1) first refl ∙ byte_not text 47 _ (at + 1) (omega arith) h)
+      closes_second h = stands_not (byte_is text 60 _ at (omega arith) (at + 1) first refl ∙ byte_not text 47 _ (at + 1) (omega arith) h)
 
-      pub closes-start : get_or text (at + 1) 0 ≡ 47 → read_word (closes tag size text) (drop at text) ≡ read_word (drop 2 (closes tag size text)) (drop (at + 2) text)
+      pub closes_start : get_or text (at + 1) 0 ≡ 47 → read_word (closes tag size text) (drop at text) ≡ read_word (drop 2 (closes tag size text)) (drop (at + 2) text)
       unfolding closes
-      closes-start h = byte_is text 60 _ at (omega arith) (at + 1) first refl ∙ byte_is text 47 _ (at + 1) (omega arith) (at + 2) h (omega arith)
+      closes_start h = byte_is text 60 _ at (omega arith) (at + 1) first refl ∙ byte_is text 47 _ (at + 1) (omega arith) (at + 2) h (omega arith)
 
     module _ (i : ℕ) (going : read_word (closes tag size text) (drop at text) ≡ read_word (drop i (closes tag size text)) (drop (at + i) text)) (two : 2 ≤ i) where
       inside : at ≤ length text
       inside = omega arith
 
-      pub closes-differs : i < size → (get_or text (at + i) 0 ≡ get_or text (tag + (i - 1)) 0 → ⊥) → Closes Nothing
-      closes-differs g h = stands_not ((word-differs (closes tag size text) text at inside i going (omega (arith, closes_long)) (omega (arith, closes_long)) (λ e. h (e ∙ closes_at i two g))).nothing refl)
+      pub closes_differs : i < size → (get_or text (at + i) 0 ≡ get_or text (tag + (i - 1)) 0 → ⊥) → Closes Nothing
+      closes_differs g h = stands_not ((word_differs (closes tag size text) text at inside i going (omega (arith, closes_long)) (omega (arith, closes_long)) (λ e. h (e ∙ closes_at i two g))).nothing refl)
 
-      pub closes-again : i < size → get_or text (at + i) 0 ≡ get_or text (tag + (i - 1)) 0
+      pub closes_again : i < size → get_or text (at + i) 0 ≡ get_or text (tag + (i - 1)) 0
           → read_word (closes tag size text) (drop at text) ≡ read_word (drop (i + 1) (closes tag size text)) (drop (at + (i + 1)) text)
-      closes-again g h =
-          word-again (closes tag size text) text at inside i going (omega (arith, closes_long)) (omega (arith, closes_long)) (h ∙ sym (closes_at i two g))
+      closes_again g h =
+          word_again (closes tag size text) text at inside i going (omega (arith, closes_long)) (omega (arith, closes_long)) (h ∙ sym (closes_at i two g))
 
-      pub closes-done : i ≤ size → size ≤ i → Closes (At (at + i))
+      pub closes_done : i ≤ size → size ≤ i → Closes (At (at + i))
       unfolding read_word
-      closes-done g h =
+      closes_done g h =
           stands_at (going ∙ ap (λ (u : List ℕ). read_word u (drop (at + i) text)) (drop_of_length-le (closes tag size text) {i = i} (omega (arith, closes_long)))) (omega arith) (omega arith)
 
 -- closing_at
@@ -363,8 +363,8 @@ module _ (k : ℕ) (text : List ℕ) (at : ℕ) where
   opening_short h = broken_number (opening_word k (drop at text) ∙ begins_cut 120 k 46 (drop at text) _ (omega (arith, length-drop at text)))
 
   module _ {x : Place} (first : Stands (read_word (begins 120 k 46) (drop at text)) text (at + 4) x) where
-    pub opening-nothing : x ≡ Nothing → Numbers (read_opening k (drop at text)) text (at + 2) N.Nothing
-    opening-nothing h = broken_number (opening_word k (drop at text) ∙ then_nothing first (λ u r. ends r) h)
+    pub opening_nothing : x ≡ Nothing → Numbers (read_opening k (drop at text)) text (at + 2) N.Nothing
+    opening_nothing h = broken_number (opening_word k (drop at text) ∙ then_nothing first (λ u r. ends r) h)
 
     module _ {b : ℕ} (eb : x ≡ At b) {z : Number} (third : Numbers (read_number (drop b text)) text b z) where
       so_far : read_opening k (drop at text) ≡ ends (drop b text)
@@ -375,47 +375,47 @@ module _ (k : ℕ) (text : List ℕ) (at : ℕ) where
       large v h deep n = absurd (n refl)
       large v h broken n = tt
 
-      large-number : (o : Read ℕ) → NoNumber o → NoNumber (and_then o λ p r. and_then (read_word tag_end r) λ u r. done p r)
-      large-number (done v r) h = large v h (read_word tag_end r) (word_shallow tag_end r)
-      large-number deep h = h
-      large-number broken h = tt
+      large_number : (o : Read ℕ) → NoNumber o → NoNumber (and_then o λ p r. and_then (read_word tag_end r) λ u r. done p r)
+      large_number (done v r) h = large v h (read_word tag_end r) (word_shallow tag_end r)
+      large_number deep h = h
+      large_number broken h = tt
 
-      pub opening-third : z ≡ N.Nothing → Numbers (read_opening k (drop at text)) text (at + 2) N.Nothing
-      opening-third h = numbers_not (rw so_far (large-number (read_number (drop b text)) (third.nothing h)))
+      pub opening_third : z ≡ N.Nothing → Numbers (read_opening k (drop at text)) text (at + 2) N.Nothing
+      opening_third h = numbers_not (rw so_far (large_number (read_number (drop b text)) (third.nothing h)))
 
       module _ {v c : ℕ} (ez : z ≡ N.Is v c) where
         end_of : {q : Read (Unit {0})} → read_word tag_end (drop c text) ≡ q → read_opening k (drop at text) ≡ (and_then q λ u r. done v r)
         end_of e = so_far ∙ (number_at_lem third _ ez ∙ ap (λ (q : Read (Unit {0})). and_then q λ u r. done v r) e)
 
-        pub opening-end : length text ≤ c → Numbers (read_opening k (drop at text)) text (at + 2) N.Nothing
+        pub opening_end : length text ≤ c → Numbers (read_opening k (drop at text)) text (at + 2) N.Nothing
         unfolding read_word
-        opening-end h = broken_number (end_of (ap (read_word tag_end) (drop_of_length-le text {i = c} h)))
+        opening_end h = broken_number (end_of (ap (read_word tag_end) (drop_of_length-le text {i = c} h)))
 
         module _ (there : c < length text) where
-          pub opening-fourth : (get_or text c 0 ≡ 62 → ⊥) → Numbers (read_opening k (drop at text)) text (at + 2) N.Nothing
-          opening-fourth h = broken_number (end_of (byte_not text 62 [] c there h))
+          pub opening_fourth : (get_or text c 0 ≡ 62 → ⊥) → Numbers (read_opening k (drop at text)) text (at + 2) N.Nothing
+          opening_fourth h = broken_number (end_of (byte_not text 62 [] c there h))
 
-          pub opening-done : get_or text c 0 ≡ 62 → Numbers (read_opening k (drop at text)) text (at + 2) (N.Is v (c + 1))
+          pub opening_done : get_or text c 0 ≡ 62 → Numbers (read_opening k (drop at text)) text (at + 2) (N.Is v (c + 1))
           unfolding read_word
-          opening-done h =
+          opening_done h =
               let p = (first.reached b eb).past in
               let r = (third.reached v c ez).past in
               numbers_is (end_of (byte_is text 62 [] c there (c + 1) h refl)) (third.small v c ez) (omega arith) (omega arith)
 
 -- token_at
 module _ (k : ℕ) (c : Range) (text : List ℕ) (at : ℕ) (short : c.high < 65536) where
-  abbrev closesToken : ℕ → List ℕ → Read Code
-  closesToken v r = elim (in_range c v) [ true ↦ and_then (read_token_tag close_token k r) λ u r. done (token v) r | false ↦ broken ]
+  abbrev closes_token : ℕ → List ℕ → Read Code
+  closes_token v r = elim (in_range c v) [ true ↦ and_then (read_token_tag close_token k r) λ u r. done (token v) r | false ↦ broken ]
 
   abbrev valued : List ℕ → Read Code
-  valued r = and_then (read_number r) closesToken
+  valued r = and_then (read_number r) closes_token
 
   token_begins : read_token k c (drop at text) ≡ (and_then (read_word (begins 116 k 62) (drop at text)) λ u r. valued r)
   unfolding read_token begins token_tag
   token_begins = ap (λ (q : Read (Unit {0})). and_then q λ u r. valued r) (tag_word open_token k (drop at text))
 
   pub token_short : length text - at < 5 → Tokens (read_token k c (drop at text)) text (at + 2) N.Nothing
-  token_short h = tokens_not (token_begins ∙ begins_cut 116 k 62 (drop at text) closesToken (omega (arith, length-drop at text)))
+  token_short h = tokens_not (token_begins ∙ begins_cut 116 k 62 (drop at text) closes_token (omega (arith, length-drop at text)))
 
   out_of_range : (v : ℕ) → 65536 ≤ v → in_range c v ≡ false
   unfolding in_range
@@ -426,36 +426,36 @@ module _ (k : ℕ) (c : Range) (text : List ℕ) (at : ℕ) (short : c.high < 65
   unfolding token_tag
   valued_cut s h = go (read_number s) refl
     where
-      tag-cut : (v : ℕ) (r : List ℕ) → length r < 5 → closesToken v r ≡ broken
-      tag-cut v r h =
+      tag_cut : (v : ℕ) (r : List ℕ) → length r < 5 → closes_token v r ≡ broken
+      tag_cut v r h =
           let z : read_token_tag close_token k r ≡ broken = tag_word close_token k r ∙ word_cut (token_tag close_token k) r (omega (arith, length-append (decimal k) (62 ∷ []), decimal_some k)) in
           by_test (in_range c v) (λ e. cc) (λ e. cc)
 
-      go : (q : Read ℕ) → read_number s ≡ q → and_then q closesToken ≡ broken
-      go (done v r) e = let z = ap length (number_sound s v r e) in tag-cut v r (omega (arith, z, length-append (decimal v) r, decimal_some v))
+      go : (q : Read ℕ) → read_number s ≡ q → and_then q closes_token ≡ broken
+      go (done v r) e = let z = ap length (number_sound s v r e) in tag_cut v r (omega (arith, z, length-append (decimal v) r, decimal_some v))
       go deep e = absurd (number_shallow s e)
       go broken e = refl
 
   module _ {x : Place} (first : Stands (read_word (begins 116 k 62) (drop at text)) text (at + 4) x) where
-    pub token-nothing : x ≡ Nothing → Tokens (read_token k c (drop at text)) text (at + 2) N.Nothing
-    token-nothing h = tokens_not (token_begins ∙ then_nothing first (λ u r. valued r) h)
+    pub token_nothing : x ≡ Nothing → Tokens (read_token k c (drop at text)) text (at + 2) N.Nothing
+    token_nothing h = tokens_not (token_begins ∙ then_nothing first (λ u r. valued r) h)
 
     pub token_cut : {a : ℕ} → x ≡ At a → length text - a < 6 → Tokens (read_token k c (drop at text)) text (at + 2) N.Nothing
     token_cut {a} ea h = tokens_not (token_begins ∙ (then_at first (λ u r. valued r) ea ∙ valued_cut (drop a text) (omega (arith, length-drop a text))))
 
     module _ {a : ℕ} (ea : x ≡ At a) {y : Number} (second : Numbers (read_number (drop a text)) text a y) where
-      token-so-far : read_token k c (drop at text) ≡ valued (drop a text)
-      token-so-far = token_begins ∙ then_at first (λ u r. valued r) ea
+      token_so_far : read_token k c (drop at text) ≡ valued (drop a text)
+      token_so_far = token_begins ∙ then_at first (λ u r. valued r) ea
 
-      pub token-second : y ≡ N.Nothing → Tokens (read_token k c (drop at text)) text (at + 2) N.Nothing
-      token-second h = tokens_not (token-so-far ∙ no_number (read_number (drop a text)) closesToken (second.nothing h) (λ v r g. let d = out_of_range v g in cc))
+      pub token_second : y ≡ N.Nothing → Tokens (read_token k c (drop at text)) text (at + 2) N.Nothing
+      token_second h = tokens_not (token_so_far ∙ no_number (read_number (drop a text)) closes_token (second.nothing h) (λ v r g. let d = out_of_range v g in cc))
 
       module _ {v b : ℕ} (ey : y ≡ N.Is v b) {t : Bool} (et : t ≡ in_range c v) where
-        valued-so-far : read_token k c (drop at text) ≡ closesToken v (drop b text)
-        valued-so-far = token-so-far ∙ number_at_lem second closesToken ey
+        valued_so_far : read_token k c (drop at text) ≡ closes_token v (drop b text)
+        valued_so_far = token_so_far ∙ number_at_lem second closes_token ey
 
         pub token_out : t ≡ false → Tokens (read_token k c (drop at text)) text (at + 2) N.Nothing
-        token_out h = let d : in_range c v ≡ false = sym et ∙ h in tokens_not (valued-so-far ∙ cc)
+        token_out h = let d : in_range c v ≡ false = sym et ∙ h in tokens_not (valued_so_far ∙ cc)
 
         module _ (inside : t ≡ true) {z : Place} (third : Stands (read_word (closes at (a - at + 1) text) (drop b text)) text b z) where
           same_tag : closes at (a - at + 1) text ≡ token_tag close_token k
@@ -467,10 +467,10 @@ module _ (k : ℕ) (c : Range) (text : List ℕ) (at : ℕ) (short : c.high < 65
           closing : read_token k c (drop at text) ≡ (and_then (read_word (closes at (a - at + 1) text) (drop b text)) λ u r. done (token v) r)
           closing =
               let d : in_range c v ≡ true = sym et ∙ inside in
-              valued-so-far ∙ ((cc) ∙ ap (λ (q : Read (Unit {0})). and_then q λ u r. done (token v) r) (tag_word close_token k (drop b text) ∙ ap (λ (w : List ℕ). read_word w (drop b text)) (sym same_tag)))
+              valued_so_far ∙ ((cc) ∙ ap (λ (q : Read (Unit {0})). and_then q λ u r. done (token v) r) (tag_word close_token k (drop b text) ∙ ap (λ (w : List ℕ). read_word w (drop b text)) (sym same_tag)))
 
-          pub token-third : z ≡ Nothing → Tokens (read_token k c (drop at text)) text (at + 2) N.Nothing
-          token-third h = tokens_not (closing ∙ then_nothing third (λ u r. done (token v) r) h)
+          pub token_third : z ≡ Nothing → Tokens (read_token k c (drop at text)) text (at + 2) N.Nothing
+          token_third h = tokens_not (closing ∙ then_nothing third (λ u r. done (token v) r) h)
 
           pub token_done : {d : ℕ} → z ≡ At d → Tokens (read_token k c (drop at text)) text (at + 2) (N.Is v d)
           token_done {d} ez =
@@ -496,8 +496,8 @@ module _ (class : ℕ) (text : List ℕ) (at : ℕ) where
   tells_other long h =
       let there : at + 5 ≤ length text = omega arith in
       tells_not (λ some k c high. by_test (eqb (get_or text at 0) 60)
-      (λ t. (token-nothing k c text at high (begin-second 116 62 k text at there (eqb-true (get_or text at 0) 60 t) h) refl).nothing refl)
-      (λ t. (token-nothing k c text at high (begin_first 116 62 k text at there (eqb-false (get_or text at 0) 60 t)) refl).nothing refl))
+      (λ t. (token_nothing k c text at high (begin_second 116 62 k text at there (eqb-true (get_or text at 0) 60 t) h) refl).nothing refl)
+      (λ t. (token_nothing k c text at high (begin_first 116 62 k text at there (eqb-false (get_or text at 0) 60 t)) refl).nothing refl))
 
   pub tells_none : class ≡ 0 → TellsToken class text at false
   tells_none h = tells_not (λ some. absurd (some h))

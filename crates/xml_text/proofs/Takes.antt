@@ -44,17 +44,17 @@ module _ (c : ℕ) (text : List ℕ) (at to : ℕ) (going : after c (drop to tex
       record { left = z ∙ (ap (after c) (sym z) ∙ going); past = past; inside = i }
 
   module _ (there : to < length text) where
-    pub behind-found : get_or text to 0 ≡ c → Behind c text at (to + 1)
+    pub behind_found : get_or text to 0 ≡ c → Behind c text at (to + 1)
     unfolding after
-    behind-found h =
+    behind_found h =
         let d = eq-eqb (get_or text to 0) c h in
         let f = front text to there in
         let z : after c (get_or text to 0 ∷ drop (to + 1) text) ≡ drop (to + 1) text = cc in
         record { left = sym z ∙ (ap (after c) (sym f) ∙ going); past = omega arith; inside = omega arith }
 
-    pub behind-again : (get_or text to 0 ≡ c → ⊥) → after c (drop (to + 1) text) ≡ after c (drop at text)
+    pub behind_again : (get_or text to 0 ≡ c → ⊥) → after c (drop (to + 1) text) ≡ after c (drop at text)
     unfolding after
-    behind-again h =
+    behind_again h =
         let d = ne_eqb (get_or text to 0) c h in
         let f = front text to there in
         let z : after c (get_or text to 0 ∷ drop (to + 1) text) ≡ after c (drop (to + 1) text) = cc in
@@ -258,32 +258,32 @@ module _ (text : List ℕ) (at : ℕ) where
     named : (v : List ℕ) → Contents (drop at text) v → Name (drop at text) v
     named v c = name_of (drop at text) v c (second_at sign)
 
-    pub name-full : n ≤ length o → length o - n < 1 → Takes text at o o n Full
-    name-full i h = record {
+    pub name_full : n ≤ length o → length o - n < 1 → Takes text at o o n Full
+    name_full i h = record {
       inside = λ e m q. not_to q;
       next = λ e m q. not_to q;
       full = λ q v c. let w = ap length (named v c).parts in omega (arith, w);
     }
 
     module _ {a : ℕ} (point : Behind 46 text (at + 3) a) {x : Number} (reads : Numbers (read_number (drop a text)) text a x) where
-      name-there : (v : List ℕ) (c : Contents (drop at text) v) → drop a text ≡ decimal (named v c).name ++ (62 ∷ (named v c).rest)
-      name-there v c = point.left ∙ (dropped 46 3 ∙ (named v c).there)
+      name_there : (v : List ℕ) (c : Contents (drop at text) v) → drop a text ≡ decimal (named v c).name ++ (62 ∷ (named v c).rest)
+      name_there v c = point.left ∙ (dropped 46 3 ∙ (named v c).there)
 
-      pub name-nothing : x ≡ N.Nothing → Takes text at o o n Full
-      name-nothing h = record {
+      pub name_nothing : x ≡ N.Nothing → Takes text at o o n Full
+      name_nothing h = record {
         inside = λ e m q. not_to q;
         next = λ e m q. not_to q;
         full = λ q v c.
             let w = named v c in
-            number_not text a w.name (62 ∷ w.rest) (name-there v c) (stop_end w.rest) reads (omega (arith, w.byte)) h;
+            number_not text a w.name (62 ∷ w.rest) (name_there v c) (stop_end w.rest) reads (omega (arith, w.byte)) h;
       }
 
       module _ {p b : ℕ} (ex : x ≡ N.Is p b) where
         name_same : (v : List ℕ) (c : Contents (drop at text) v) → (p ≡ (named v c).name) × (drop b text ≡ 62 ∷ (named v c).rest)
-        name_same v c = number_same text a (named v c).name (62 ∷ (named v c).rest) (name-there v c) (stop_end (named v c).rest) reads ex
+        name_same v c = number_same text a (named v c).name (62 ∷ (named v c).rest) (name_there v c) (stop_end (named v c).rest) reads ex
 
-        pub name-cut : length text ≤ b → Takes text at o o n Full
-        name-cut h = record {
+        pub name_cut : length text ≤ b → Takes text at o o n Full
+        name_cut h = record {
           inside = λ e m q. not_to q;
           next = λ e m q. not_to q;
           full = λ q v c. let w = ap length (name_same v c).1 in absurd (omega (arith, length-drop b text, w));
@@ -312,27 +312,27 @@ module _ (text : List ℕ) (at : ℕ) where
         }
 
     -- A name of one digit.
-    name-digit : {a u : ℕ} → Behind 46 text (at + 3) a → a + 1 < length text → n < length o → get_or text (a + 1) 0 ≡ 62 → u ≡ get_or text a 0 % 16
+    name_digit : {a u : ℕ} → Behind 46 text (at + 3) a → a + 1 < length text → n < length o → get_or text (a + 1) 0 ≡ 62 → u ≡ get_or text a 0 % 16
         → Takes text at o (set o n u) n (To (a + 1 + 1) (n + 1))
-    name-digit {a} {u} point there h end eu =
+    name_digit {a} {u} point there h end eu =
         by_test (is_digit (get_or text a 0))
         (λ t.
         let w = digit_range (get_or text a 0) t in
         name_done point (number_one text a there t (end_no_digit end)) refl there h (omega (arith, w.0, w.1, eu)))
         (λ t. record {
           inside = λ d m q. let w = to_same q in (omega (arith, w.0, point.past), omega (arith, w.0), omega (arith, w.1));
-          next = λ d m q v c r. let z = (name-nothing point (number_none text a (omega arith) t) refl).full refl v c in absurd (omega (arith, z, r));
+          next = λ d m q v c r. let z = (name_nothing point (number_none text a (omega arith) t) refl).full refl v c in absurd (omega (arith, z, r));
           full = λ q. not_to (sym q);
         })
 
-    pub name-short : {u : ℕ} → at + 6 ≤ length text → n < length o → get_or text (at + 3) 0 ≡ 46 → get_or text (at + 5) 0 ≡ 62 → u ≡ get_or text (at + 4) 0 % 16
+    pub name_short : {u : ℕ} → at + 6 ≤ length text → n < length o → get_or text (at + 3) 0 ≡ 46 → get_or text (at + 5) 0 ≡ 62 → u ≡ get_or text (at + 4) 0 % 16
         → Takes text at o (set o n u) n (To (at + 6) (n + 1))
-    name-short {u} long h point end eu =
+    name_short {u} long h point end eu =
         let za : at + 3 + 1 ≡ at + 4 = omega arith in
         let zb : at + 4 + 1 ≡ at + 5 = omega arith in
         let zc : at + 4 + 1 + 1 ≡ at + 6 = omega arith in
-        let b : Behind 46 text (at + 3) (at + 3 + 1) = behind-found 46 text (at + 3) (at + 3) refl (omega arith) (omega arith) point in
-        let d : Takes text at o (set o n u) n (To (at + 4 + 1 + 1) (n + 1)) = name-digit (rw za at b) (omega arith) h (rw zb end) eu in
+        let b : Behind 46 text (at + 3) (at + 3 + 1) = behind_found 46 text (at + 3) (at + 3) refl (omega arith) (omega arith) point in
+        let d : Takes text at o (set o n u) n (To (at + 4 + 1 + 1) (n + 1)) = name_digit (rw za at b) (omega arith) h (rw zb end) eu in
         rw zc at d
 
   -- take_value
@@ -340,8 +340,8 @@ module _ (text : List ℕ) (at : ℕ) where
     valued : (v : List ℕ) → Contents (drop at text) v → Value (drop at text) v
     valued v c = value_of (drop at text) v c (omega (arith, length-drop at text)) (second_not not-shut) (second_not not-name)
 
-    pub value-full : n ≤ length o → length o - n < 2 → Takes text at o o n Full
-    value-full i h = record {
+    pub value_full : n ≤ length o → length o - n < 2 → Takes text at o o n Full
+    value_full i h = record {
       inside = λ e m q. not_to q;
       next = λ e m q. not_to q;
       full = λ q v c. let w = ap length (valued v c).parts in omega (arith, w);
@@ -351,8 +351,8 @@ module _ (text : List ℕ) (at : ℕ) where
       value_there : (v : List ℕ) (c : Contents (drop at text) v) → drop a text ≡ decimal (valued v c).number ++ (token_tag close_token (valued v c).kind ++ (valued v c).rest)
       value_there v c = point.left ∙ (dropped 62 3 ∙ (valued v c).there)
 
-      pub value-cut : length text - a < 6 → Takes text at o o n Full
-      value-cut h = record {
+      pub value_cut : length text - a < 6 → Takes text at o o n Full
+      value_cut h = record {
         inside = λ e m q. not_to q;
         next = λ e m q. not_to q;
         full = λ q v c.
@@ -372,8 +372,8 @@ module _ (text : List ℕ) (at : ℕ) where
       }
 
     module _ {a : ℕ} (point : Behind 62 text (at + 3) a) {x : Number} (reads : Numbers (read_number (drop a text)) text a x) where
-      pub value-nothing : x ≡ N.Nothing → Takes text at o o n Full
-      value-nothing h = record {
+      pub value_nothing : x ≡ N.Nothing → Takes text at o o n Full
+      value_nothing h = record {
         inside = λ e m q. not_to q;
         next = λ e m q. not_to q;
         full = λ q v c.
@@ -386,25 +386,25 @@ module _ (text : List ℕ) (at : ℕ) where
         value_same v c = number_same text a (valued v c).number _ (value_there point v c) (stop_tag (valued v c).kind (valued v c).rest) reads ex
 
         -- The closing tag is as long as the opening tag and one byte.
-        value-size : (v : List ℕ) (c : Contents (drop at text) v) → length (token_tag close_token (valued v c).kind) ≡ a - at + 1
-        value-size v c =
+        value_size : (v : List ℕ) (c : Contents (drop at text) v) → length (token_tag close_token (valued v c).kind) ≡ a - at + 1
+        value_size v c =
             let y = valued v c in
             let k = ap length (value_there point v c) in
             omega (arith, y.long, k, length-drop at text, length-drop a text, point.past, point.inside, tags_long y.kind, there)
 
-        pub value-short : length text - b < a - at + 1 → Takes text at o o n Full
-        value-short h = record {
+        pub value_short : length text - b < a - at + 1 → Takes text at o o n Full
+        value_short h = record {
           inside = λ e m q. not_to q;
           next = λ e m q. not_to q;
           full = λ q v c.
               let w = (value_same v c).1 in
               let y = valued v c in
-              absurd (omega (arith, ap length w, length-append (token_tag close_token y.kind) y.rest, length-drop b text, value-size v c));
+              absurd (omega (arith, ap length w, length-append (token_tag close_token y.kind) y.rest, length-drop b text, value_size v c));
         }
 
-        pub value-done : {u t : ℕ} → a - at + 1 ≤ length text - b → b ≤ length text → n + 2 ≤ length o → u ≡ p / 256 → t ≡ p % 256
+        pub value_done : {u t : ℕ} → a - at + 1 ≤ length text - b → b ≤ length text → n + 2 ≤ length o → u ≡ p / 256 → t ≡ p % 256
             → Takes text at o (set (set o n u) (n + 1) t) n (To (b + (a - at + 1)) (n + 2))
-        value-done {u} {t} g i h eu et = record {
+        value_done {u} {t} g i h eu et = record {
           inside = λ d m q.
               let w = to_same q in
               let y = reads.reached p b ex in
@@ -414,7 +414,7 @@ module _ (text : List ℕ) (at : ℕ) where
               let y = valued v c in
               let z = value_same v c in
               let left : y.rest ≡ drop (b + (a - at + 1)) text =
-              sym (sym (drop-drop (a - at + 1) b text) ∙ (ap (drop (a - at + 1)) z.1 ∙ drop_at (token_tag close_token y.kind) y.rest (a - at + 1) (value-size v c))) in
+              sym (sym (drop-drop (a - at + 1) b text) ∙ (ap (drop (a - at + 1)) z.1 ∙ drop_at (token_tag close_token y.kind) y.rest (a - at + 1) (value_size v c))) in
               let i : n + 1 ≡ suc n = omega arith in
               rw (← w.0, ← w.1) (record {
                 first = two_bytes p;
@@ -440,8 +440,8 @@ module _ (text o : List ℕ) where
   taken_start v c = record { first = []; rest = v; parts = refl; holds = c; put = record { end = omega arith; fits = omega arith; bytes = nothing_spliced o 0 } }
 
   module _ {o₁ : List ℕ} {at n : ℕ} {v : List ℕ} (room : length v ≤ length o) (so_far : Written-to v text o o₁ 0 at n) where
-    pub taken-done : length text ≤ at → (o₁ ≡ spliced o 0 v) × (n ≡ length v)
-    taken-done h =
+    pub taken_done : length text ≤ at → (o₁ ≡ spliced o 0 v) × (n ≡ length v)
+    taken_done h =
         let e = contents_none (drop at text) so_far.rest so_far.holds (drop_of_length-le text {i = at} h) in
         let z : v ≡ so_far.first = so_far.parts ∙ (ap (λ (u : List ℕ). so_far.first ++ u) e ∙ append-nil so_far.first) in
         (so_far.put.bytes ∙ ap (spliced o 0) (sym z), omega (arith, so_far.put.end, ap length z))
@@ -450,11 +450,11 @@ module _ (text o : List ℕ) where
       fits : n + length so_far.rest ≤ length o₁
       fits = omega (arith, so_far.put.end, ap length so_far.parts, length-append so_far.first so_far.rest)
 
-      pub taken-full : {A : Type 0} → x ≡ Full → A
-      taken-full h = let z = step.full h so_far.rest so_far.holds in let y = fits in absurd (omega arith)
+      pub taken_full : {A : Type 0} → x ≡ Full → A
+      taken_full h = let z = step.full h so_far.rest so_far.holds in let y = fits in absurd (omega arith)
 
-      pub taken-again : {e m : ℕ} → x ≡ To e m → Written-to v text o o₂ 0 e m
-      taken-again {e} {m} h =
+      pub taken_again : {e m : ℕ} → x ≡ To e m → Written-to v text o o₂ 0 e m
+      taken_again {e} {m} h =
           let w = step.next e m h so_far.rest so_far.holds fits in
           record {
             first = so_far.first ++ w.first;
@@ -477,28 +477,28 @@ module _ (text : List ℕ) (at : ℕ) (there : at < length text) where
       (omega arith, omega arith)
 
   module _ (first : get_or text at 0 ≡ 60) where
-    holds-sign : bytes_in (drop at text) ≡ signed (get_or text (at + 1) 0) + bytes_in (drop (at + 1) text)
+    holds_sign : bytes_in (drop at text) ≡ signed (get_or text (at + 1) 0) + bytes_in (drop (at + 1) text)
     unfolding bytes_in
-    holds-sign =
+    holds_sign =
         let d = eq-eqb (get_or text at 0) 60 first in
         let g : get_or (drop (at + 1) text) 0 0 ≡ get_or text (at + 1) 0 = byte_drop text (at + 1) 0 (at + 1) (omega arith) in
         rw (front text at there) (cc)
 
-    pub holds-end : length text - at < 2 → Holds 0
+    pub holds_end : length text - at < 2 → Holds 0
     unfolding bytes_in signed
-    holds-end h =
+    holds_end h =
         let z : drop (at + 1) text ≡ [] = drop_of_length-le text {i = at + 1} (omega arith) in
         let g : get_or text (at + 1) 0 ≡ 0 = sym (byte_drop text (at + 1) 0 (at + 1) (omega arith)) ∙ ap (λ (u : List ℕ). get_or u 0 0) z in
         let y : signed (get_or text (at + 1) 0) ≡ 0 = ap signed g in
-        (holds-sign ∙ omega arith, omega arith)
+        (holds_sign ∙ omega arith, omega arith)
 
-    pub holds-name : get_or text (at + 1) 0 ≡ 120 → Holds 1
+    pub holds_name : get_or text (at + 1) 0 ≡ 120 → Holds 1
     unfolding signed
-    holds-name h = (holds-sign ∙ ap (λ (c : ℕ). signed c + bytes_in (drop (at + 1) text)) h, omega arith)
+    holds_name h = (holds_sign ∙ ap (λ (c : ℕ). signed c + bytes_in (drop (at + 1) text)) h, omega arith)
 
-    pub holds-value : get_or text (at + 1) 0 ≡ 116 → Holds 2
+    pub holds_value : get_or text (at + 1) 0 ≡ 116 → Holds 2
     unfolding signed
-    holds-value h = (holds-sign ∙ ap (λ (c : ℕ). signed c + bytes_in (drop (at + 1) text)) h, omega arith)
+    holds_value h = (holds_sign ∙ ap (λ (c : ℕ). signed c + bytes_in (drop (at + 1) text)) h, omega arith)
 
     pub holds_other : (get_or text (at + 1) 0 ≡ 120 → ⊥) → (get_or text (at + 1) 0 ≡ 116 → ⊥) → Holds 0
     unfolding signed
@@ -506,7 +506,7 @@ module _ (text : List ℕ) (at : ℕ) (there : at < length text) where
         let c = ne_eqb (get_or text (at + 1) 0) 120 h in
         let d = ne_eqb (get_or text (at + 1) 0) 116 g in
         let y : signed (get_or text (at + 1) 0) ≡ 0 = cc in
-        (holds-sign ∙ omega arith, omega arith)
+        (holds_sign ∙ omega arith, omega arith)
 
 -- count
 pub count_again : (text : List ℕ) (at n r : ℕ) → n + bytes_in (drop at text) ≡ bytes_in text → bytes_in (drop at text) ≡ r + bytes_in (drop (at + 1) text)

@@ -2,7 +2,7 @@
 -- for each number of its result, and there is no other, their keys are the same, one for one.
 use Rattle.std.specs.Prelude.{ℕ, ◌+◌, ◌*◌, ◌<◌, ◌≤◌, ◌≡◌, Bool, true, false, List, [], ◌++◌, map, length, ltb}
 use Rattle.format_fields.specs.Lists.{all, concat_map, same_numbers}
-use Rattle.format_fields.specs.Keyed.{risingFrom, rising}
+use Rattle.format_fields.specs.Keyed.{rising_from, rising}
 use Rattle.format_fields.specs.Inner.Places.{is_whole, places_from, places, key_at, order_at}
 use Rattle.format_language.specs.Language.{Entry, class, production, production_key}
 use Rattle.format_language.specs.Inner.Entries.{entry_whole, entry_at}
@@ -37,7 +37,7 @@ keys_match s q b p = same_numbers (wanted_from s q (items_from b 0)) (orders_fro
 -- What the walk over both asks: whole entries and items by rising key, productions from q on.
 pub record Sides (s : List ℕ) (q : ℕ) (b : List ℕ) (p : ℕ) : Type 0 where
   pub entries : all (entry_whole s) (places_from s q) ≡ true
-  pub productions : risingFrom (key_at 0x11 s) 32 (places_from s q) ≡ true
+  pub productions : rising_from (key_at 0x11 s) 32 (places_from s q) ≡ true
   pub items : all (item_whole b) (places b) ≡ true
   pub rises : rising (order_at 0x22 b) (places b) ≡ true
   pub clauses : all (item_whole b) (places_from b p) ≡ true
@@ -47,7 +47,7 @@ pub record Sides (s : List ℕ) (q : ℕ) (b : List ℕ) (p : ℕ) : Type 0 wher
 pub record Asked (b : List ℕ) (m kind p : ℕ) : Type 0 where
   pub below : kind < 32
   pub mappings : all (item_whole b) (places_from b m) ≡ true
-  pub rises : risingFrom (order_at 0x22 b) (kind * 256) (places_from b m) ≡ true
+  pub rises : rising_from (order_at 0x22 b) (kind * 256) (places_from b m) ≡ true
   pub clauses : all (item_whole b) (places_from b p) ≡ true
   pub inside : p ≤ length b
 

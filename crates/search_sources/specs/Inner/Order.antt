@@ -6,7 +6,7 @@ use Rattle.tree_reader.specs.Code.{Code, node, token, Codes, cons}
 mutual
   pub data Earlier : Code → Code → Type 0 where
     by_name : {k p q : ℕ} {t r : Codes} → p < q → Earlier (node k p t) (node k q r)
-    by-operands : {k p : ℕ} {t r : Codes} → EarlierAll t r → Earlier (node k p t) (node k p r)
+    by_operands : {k p : ℕ} {t r : Codes} → EarlierAll t r → Earlier (node k p t) (node k p r)
     by_value : {v w : ℕ} → v < w → Earlier (token v) (token w)
 
   pub data EarlierAll : Codes → Codes → Type 0 where

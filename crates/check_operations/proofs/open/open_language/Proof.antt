@@ -1,5 +1,5 @@
 use borrow.Author.Tests.{not-true, not-false}
-use Rattle.check_operations.proofs.Opening.{accepts, refused_language, open_refused, open-out, open_in, rooted_opened}
+use Rattle.check_operations.proofs.Opening.{accepts, refused_language, open_refused, open_out, open_in, rooted_opened}
 use borrow.Author.Rules.{rules}
 use Rattle.check_operations.proofs.open.open_language.Statement.{statement}
 use Rattle.check_operations.proofs.open.open_language.Tie as tie
@@ -15,7 +15,7 @@ is-root-requires : tie.Need-is-root-requires
 is-root-requires c κs = let a = accepts _ c.before.before.before.before.index-language.ensures.0 c.enum_told.given.1 in (a.language, a.entries)
 
 returns-2 : tie.Need-returns-2
-returns-2 c = (open-out _ _ c.before.before.before.before.before.before.index-language.ensures.0 c.before.before.enum_told.given.1 c.before.is-root.ensures (not-true _ c.if1.true), rooted_opened _ _ _ c.before.before.before.before.before.before.index-language.ensures.1)
+returns-2 c = (open_out _ _ c.before.before.before.before.before.before.index-language.ensures.0 c.before.before.enum_told.given.1 c.before.is-root.ensures (not-true _ c.if1.true), rooted_opened _ _ _ c.before.before.before.before.before.before.index-language.ensures.1)
 
 returns-3 : tie.Need-returns-3
 returns-3 c = (open_in _ _ c.before.before.before.before.before.before.index-language.ensures.0 c.before.before.enum_told.given.1 c.before.is-root.ensures (not-false _ c.if1.false), rooted_opened _ _ _ c.before.before.before.before.before.before.index-language.ensures.1)

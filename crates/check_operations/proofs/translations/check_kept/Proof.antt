@@ -2,7 +2,7 @@ use native.Mathlib.Omega.{arith}
 use mathlib.Core.Path.{refl}
 use borrow.Author.Tests.{not-true, not-false}
 use Rattle.format_translation.proofs.Found.{heads_in, parted}
-use Rattle.check_operations.proofs.TranslationChain.{over_refused, over_none, broken-refused, broken-none, parts_there, pieces, pieces-checked, pieces-made}
+use Rattle.check_operations.proofs.TranslationChain.{over_refused, over_none, broken_refused, broken_none, parts_there, pieces, pieces_checked, pieces_made}
 use borrow.Author.Rules.{rules}
 use Rattle.check_operations.proofs.translations.check_kept.Statement.{statement}
 use Rattle.check_operations.proofs.translations.check_kept.Tie as tie
@@ -22,8 +22,8 @@ returns c = (
 
 returns-2 : tie.Need-returns-2
 returns-2 c = (
-  broken-refused _ _ c.before.before.before.before.over-limit.ensures c.before.before.before.if1.false _ c.before.before.parts_whole.ensures (not-true _ c.before.if2.true) c.refuse2.ensures,
-  (c.before.before.before.before.before.before.before.before.requires.0, λ f e. broken-none _ _ c.before.before.before.before.over-limit.ensures c.before.before.before.if1.false _ c.before.before.parts_whole.ensures (not-true _ c.before.if2.true) f e),
+  broken_refused _ _ c.before.before.before.before.over-limit.ensures c.before.before.before.if1.false _ c.before.before.parts_whole.ensures (not-true _ c.before.if2.true) c.refuse2.ensures,
+  (c.before.before.before.before.before.before.before.before.requires.0, λ f e. broken_none _ _ c.before.before.before.before.over-limit.ensures c.before.before.before.if1.false _ c.before.before.parts_whole.ensures (not-true _ c.before.if2.true) f e),
 )
 
 whole-end-requires : tie.Need-whole-end-requires
@@ -53,8 +53,8 @@ returns-3 : tie.Need-returns-3
 returns-3 c =
     let p = parts_there _ _ c.before.before.before.before.before.before.before.before.before.before.before.before.before.before.before.over-limit.ensures c.before.before.before.before.before.before.before.before.before.before.before.before.before.before.if1.false _ c.before.before.before.before.before.before.before.before.before.before.before.before.before.parts_whole.ensures (not-false _ c.before.before.before.before.before.before.before.before.before.before.before.before.if2.false) in
     let k = c.before.before.before.before.check-parts.ensures.1 in (
-      pieces-checked _ _ c.before.before.before.before.before.before.before.before.before.before.before.before.before.before.before.over-limit.ensures c.before.before.before.before.before.before.before.before.before.before.before.before.before.before.if1.false _ c.before.before.before.before.before.before.before.before.before.before.before.whole-end.ensures.is _ c.before.before.before.before.before.before.before.before.before.before.whole-end2.ensures.is p.0 p.1 (c.before.before.before.before.check-parts.ensures.0 p.0 (pieces _ _ c.before.before.before.before.before.before.before.before.before.before.before.before.before.before.before.over-limit.ensures c.before.before.before.before.before.before.before.before.before.before.before.before.before.before.if1.false _ c.before.before.before.before.before.before.before.before.before.before.before.whole-end.ensures.is _ c.before.before.before.before.before.before.before.before.before.before.whole-end2.ensures.is p.0 p.1)),
-      (k.0, pieces-made _ _ c.before.before.before.before.before.before.before.before.before.before.before.before.before.before.before.over-limit.ensures c.before.before.before.before.before.before.before.before.before.before.before.before.before.before.if1.false _ c.before.before.before.before.before.before.before.before.before.before.before.whole-end.ensures.is _ c.before.before.before.before.before.before.before.before.before.before.whole-end2.ensures.is _ _ k.1),
+      pieces_checked _ _ c.before.before.before.before.before.before.before.before.before.before.before.before.before.before.before.over-limit.ensures c.before.before.before.before.before.before.before.before.before.before.before.before.before.before.if1.false _ c.before.before.before.before.before.before.before.before.before.before.before.whole-end.ensures.is _ c.before.before.before.before.before.before.before.before.before.before.whole-end2.ensures.is p.0 p.1 (c.before.before.before.before.check-parts.ensures.0 p.0 (pieces _ _ c.before.before.before.before.before.before.before.before.before.before.before.before.before.before.before.over-limit.ensures c.before.before.before.before.before.before.before.before.before.before.before.before.before.before.if1.false _ c.before.before.before.before.before.before.before.before.before.before.before.whole-end.ensures.is _ c.before.before.before.before.before.before.before.before.before.before.whole-end2.ensures.is p.0 p.1)),
+      (k.0, pieces_made _ _ c.before.before.before.before.before.before.before.before.before.before.before.before.before.before.before.over-limit.ensures c.before.before.before.before.before.before.before.before.before.before.before.before.before.before.if1.false _ c.before.before.before.before.before.before.before.before.before.before.before.whole-end.ensures.is _ c.before.before.before.before.before.before.before.before.before.before.whole-end2.ensures.is _ _ k.1),
     )
 
 pub check-kept-spec : {M : Type 1} → statement M

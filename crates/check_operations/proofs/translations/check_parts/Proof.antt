@@ -1,6 +1,6 @@
 use mathlib.Core.Path.{sym, ◌∙◌}
 use borrow.Author.Tests.{not-true, not-false}
-use Rattle.check_operations.proofs.TranslationChain.{order_refused, order_none, clash-refused, clash-none, formed-next}
+use Rattle.check_operations.proofs.TranslationChain.{order_refused, order_none, clash_refused, clash_none, formed_next}
 use borrow.Author.Rules.{rules}
 use Rattle.check_operations.proofs.translations.check_parts.Statement.{statement}
 use Rattle.check_operations.proofs.translations.check_parts.Tie as tie
@@ -22,8 +22,8 @@ languages-clash-requires c κs = (_, c.before.before.before.before.before.before
 
 returns-2 : tie.Need-returns-2
 returns-2 c = (
-  λ f w. clash-refused f _ (c.before.before.before.before.in_order.ensures f w) (not-false _ c.before.before.before.if1.false) _ (c.before.before.languages-clash.ensures _ f w) c.before.if2.true c.refuse2.ensures,
-  (c.before.before.before.before.before.before.before.before.before.before.requires.0, λ f w e. clash-none f _ (c.before.before.before.before.in_order.ensures f w) (not-false _ c.before.before.before.if1.false) _ (c.before.before.languages-clash.ensures _ f w) c.before.if2.true e),
+  λ f w. clash_refused f _ (c.before.before.before.before.in_order.ensures f w) (not-false _ c.before.before.before.if1.false) _ (c.before.before.languages-clash.ensures _ f w) c.before.if2.true c.refuse2.ensures,
+  (c.before.before.before.before.before.before.before.before.before.before.requires.0, λ f w e. clash_none f _ (c.before.before.before.before.in_order.ensures f w) (not-false _ c.before.before.before.if1.false) _ (c.before.before.languages-clash.ensures _ f w) c.before.if2.true e),
 )
 
 check-and-index-requires : tie.Need-check-and-index-requires
@@ -31,7 +31,7 @@ check-and-index-requires c κs = (c.before.before.before.before.before.before.be
 
 returns-3 : tie.Need-returns-3
 returns-3 c = (
-  λ f w. formed-next f _ (c.before.before.before.before.before.before.before.before.before.before.in_order.ensures f w) (not-false _ c.before.before.before.before.before.before.before.before.before.if1.false) _ (c.before.before.before.before.before.before.before.before.languages-clash.ensures _ f w) c.before.before.before.before.before.before.before.if2.false (c.before.before.before.before.check-and-index.ensures.0 f w (sym (c.before.before.before.before.before.before.before.before.before.before.in_order.ensures f w) ∙ not-false _ c.before.before.before.before.before.before.before.before.before.if1.false)),
+  λ f w. formed_next f _ (c.before.before.before.before.before.before.before.before.before.before.in_order.ensures f w) (not-false _ c.before.before.before.before.before.before.before.before.before.if1.false) _ (c.before.before.before.before.before.before.before.before.languages-clash.ensures _ f w) c.before.before.before.before.before.before.before.if2.false (c.before.before.before.before.check-and-index.ensures.0 f w (sym (c.before.before.before.before.before.before.before.before.before.before.in_order.ensures f w) ∙ not-false _ c.before.before.before.before.before.before.before.before.before.if1.false)),
   let k = c.before.before.before.before.check-and-index.ensures.1 in
       (k.0, λ f w e. (k.1, k.2, k.3 f w (sym (c.before.before.before.before.before.before.before.before.before.before.in_order.ensures f w) ∙ not-false _ c.before.before.before.before.before.before.before.before.before.if1.false))),
 )

@@ -1,6 +1,6 @@
 use mathlib.Core.Path.{refl, ◌∙◌}
 use native.Mathlib.Omega.{arith}
-use Rattle.format_fields.proofs.Keys.{order_plain, order_mapping, order-short, order-clause}
+use Rattle.format_fields.proofs.Keys.{order_plain, order_mapping, order_short, order_clause}
 use borrow.Author.Rules.{rules}
 use Rattle.format_fields.proofs.walk.item_order.Goals as goal
 
@@ -11,7 +11,7 @@ pub returns-then-tag-eq-NUMBERED : goal.returns-then-tag-eq-NUMBERED
 returns-then-tag-eq-NUMBERED c = (order_mapping _ _ _ refl c.if-tag-lt-NUMBERED.false c.if-tag-eq-NUMBERED.true c.pair_in.ensures.0, omega (arith, c.pair_in.ensures.1))
 
 pub returns-then-pair_in-lt3 : goal.returns-then-pair_in-lt3
-returns-then-pair_in-lt3 c = (order-short _ _ _ refl c.if-tag-lt-NUMBERED.false c.if-tag-eq-NUMBERED.false c.pair_in-2.ensures.0 c.pair_in-3.ensures.0 c.if-pair_in-lt3.true, omega (arith, c.pair_in-2.ensures.1))
+returns-then-pair_in-lt3 c = (order_short _ _ _ refl c.if-tag-lt-NUMBERED.false c.if-tag-eq-NUMBERED.false c.pair_in-2.ensures.0 c.pair_in-3.ensures.0 c.if-pair_in-lt3.true, omega (arith, c.pair_in-2.ensures.1))
 
 pub returns : goal.returns
-returns c = (order-clause _ _ _ refl c.if-tag-lt-NUMBERED.false c.if-tag-eq-NUMBERED.false c.pair_in-2.ensures.0 c.pair_in-3.ensures.0 c.if-pair_in-lt3.false (c.to_usize.ensures.0 ∙ c.byte_at.ensures), omega (arith, c.pair_in-2.ensures.1, c.to_usize.ensures.1))
+returns c = (order_clause _ _ _ refl c.if-tag-lt-NUMBERED.false c.if-tag-eq-NUMBERED.false c.pair_in-2.ensures.0 c.pair_in-3.ensures.0 c.if-pair_in-lt3.false (c.to_usize.ensures.0 ∙ c.byte_at.ensures), omega (arith, c.pair_in-2.ensures.1, c.to_usize.ensures.1))

@@ -5,7 +5,7 @@ use mathlib.Core.Path.{◌≡◌, refl}
 use mathlib.Core.Bool.{true}
 use lib.ListN.{length}
 use Rattle.format_fields.specs.Lists.{all}
-use Rattle.format_fields.specs.Keyed.{rising, risingFrom}
+use Rattle.format_fields.specs.Keyed.{rising, rising_from}
 use Rattle.format_fields.specs.Inner.Places.{places_from, places, order_at, long_at}
 use Rattle.format_fields.proofs.Keys.{keys_done, keys_stop, keys_next}
 use Rattle.format_fields.proofs.Places.{every_here, every_after, long_here}

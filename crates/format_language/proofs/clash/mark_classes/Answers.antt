@@ -10,7 +10,7 @@ use Rattle.format_fields.specs.Inner.Places.{places_from, places}
 use Rattle.format_fields.proofs.Places.{every_here, every_after}
 use Rattle.format_language.specs.Inner.Entries.{entry_whole, mark_classes, result_marked}
 use Rattle.format_language.proofs.Facts.{entry_kind}
-use Rattle.format_language.proofs.Classes.{RisesFrom, rises_start, rises_next, classed_done, classed_here, classes-next, results_next}
+use Rattle.format_language.proofs.Classes.{RisesFrom, rises_start, rises_next, classed_done, classed_here, classes_next, results_next}
 use Rattle.format_language.proofs.clash.mark_classes.Goals as goal
 
 pub loop-p-init : goal.loop-p-init
@@ -32,7 +32,7 @@ pub whole_end-p-requires : goal.whole_end-p-requires
 whole_end-p-requires c = let k = entry_kind _ _ (every_here _ _ _ c.loop-p.invariant.1 c.loop-p-test.true).0 in omega (arith, k.0)
 
 pub loop-p-preserved : goal.loop-p-preserved
-loop-p-preserved c = (search rules, every_after _ _ _ _ c.whole_end-p.ensures.is c.loop-p.invariant.1 c.loop-p-test.true, rises_next _ _ c.loop-p.invariant.2 c.loop-p-test.true _ c.whole_end-p.ensures.is, classes-next _ _ c.loop-p.kinds _ c.loop-p.invariant.3 c.loop-p.invariant.4 c.loop-p.invariant.1 c.loop-p-test.true c.if-s-p-ne-CLASS.false _ c.whole_end-p.ensures.is _ c.to_usize.ensures.0, results_next _ _ c.loop-p.kinds _ c.loop-p.invariant.3 c.loop-p.invariant.4 c.loop-p.invariant.1 c.loop-p-test.true c.if-s-p-ne-CLASS.false _ c.whole_end-p.ensures.is)
+loop-p-preserved c = (search rules, every_after _ _ _ _ c.whole_end-p.ensures.is c.loop-p.invariant.1 c.loop-p-test.true, rises_next _ _ c.loop-p.invariant.2 c.loop-p-test.true _ c.whole_end-p.ensures.is, classes_next _ _ c.loop-p.kinds _ c.loop-p.invariant.3 c.loop-p.invariant.4 c.loop-p.invariant.1 c.loop-p-test.true c.if-s-p-ne-CLASS.false _ c.whole_end-p.ensures.is _ c.to_usize.ensures.0, results_next _ _ c.loop-p.kinds _ c.loop-p.invariant.3 c.loop-p.invariant.4 c.loop-p.invariant.1 c.loop-p-test.true c.if-s-p-ne-CLASS.false _ c.whole_end-p.ensures.is)
 
 pub returns : goal.returns
 returns c = classed_done _ _ c.loop-p.kinds _ c.loop-p.invariant.3 c.loop-p.invariant.4 c.loop-p.invariant.1 c.loop-p-test.false

@@ -10,7 +10,7 @@ use Rattle.format_fields.specs.Inner.Places.{places_from, places}
 use Rattle.format_fields.proofs.Places.{every_here, every_after}
 use Rattle.format_language.specs.Inner.Entries.{entry_whole, mark_classes, result_marked}
 use Rattle.format_language.proofs.Facts.{entry_kind}
-use Rattle.format_language.proofs.Classes.{RisesFrom, rises_start, rises_next, classed_done, classed_here, classes-next, results_next}
+use Rattle.format_language.proofs.Classes.{RisesFrom, rises_start, rises_next, classed_done, classed_here, classes_next, results_next}
 use Rattle.format_language.proofs.clash.mark_classes.Given as goal
 
 abbrev pub invariant-loop-p : goal.invariant-loop-p

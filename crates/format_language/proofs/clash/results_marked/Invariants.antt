@@ -6,7 +6,7 @@ use mathlib.Core.Bool.{true}
 use lib.ListN.{length}
 use Rattle.format_fields.specs.Lists.{all, any}
 use Rattle.format_fields.specs.Inner.Places.{places_from, tag_is}
-use Rattle.format_fields.proofs.Places.{every_here, every_after, some-done, some-stop, some_next}
+use Rattle.format_fields.proofs.Places.{every_here, every_after, some_done, some_stop, some_next}
 use Rattle.format_language.specs.Inner.Entries.{entry_whole, result_marked}
 use Rattle.format_language.proofs.Facts.{entry_kind}
 use Rattle.format_language.proofs.Classes.{result_is_lem}

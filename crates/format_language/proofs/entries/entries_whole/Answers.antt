@@ -10,7 +10,7 @@ use Rattle.format_language.specs.LanguageFile.{entries_of}
 use Rattle.format_language.specs.Inner.Entries.{entry_whole}
 use Rattle.format_language.proofs.Holds.{entries_there}
 use Rattle.format_language.proofs.Returns.{entry_cut, entry_is}
-use Rattle.format_fields.proofs.Places.{every-done, every-stop, every-next}
+use Rattle.format_fields.proofs.Places.{every_done, every_stop, every_next}
 use borrow.Author.Rules.{rules}
 use Rattle.format_language.proofs.entries.entries_whole.Goals as goal
 
@@ -18,19 +18,19 @@ pub loop-p-init : goal.loop-p-init
 loop-p-init c = entries_there _
 
 pub returns-then-e-eq0 : goal.returns-then-e-eq0
-returns-then-e-eq0 c = every-stop _ _ _ _ c.loop-p.invariant false (entry_cut _ _ (c.end_if_whole-e.ensures.cut c.if-e-eq0.true)) _ refl c.loop-p-test.true refl
+returns-then-e-eq0 c = every_stop _ _ _ _ c.loop-p.invariant false (entry_cut _ _ (c.end_if_whole-e.ensures.cut c.if-e-eq0.true)) _ refl c.loop-p-test.true refl
 
 pub entry_good-requires : goal.entry_good-requires
 entry_good-requires c = (c.end_if_whole-e.ensures.whole c.if-e-eq0.false)
 
 pub returns-then-not-entry_good : goal.returns-then-not-entry_good
-returns-then-not-entry_good c = every-stop _ _ _ _ c.loop-p.invariant _ (entry_is _ _ _ (c.end_if_whole-e.ensures.whole c.if-e-eq0.false) _ c.entry_good.ensures) _ refl c.loop-p-test.true (c.if-not-entry_good.true)
+returns-then-not-entry_good c = every_stop _ _ _ _ c.loop-p.invariant _ (entry_is _ _ _ (c.end_if_whole-e.ensures.whole c.if-e-eq0.false) _ c.entry_good.ensures) _ refl c.loop-p-test.true (c.if-not-entry_good.true)
 
 pub loop-p-smaller : goal.loop-p-smaller
 loop-p-smaller c = let w = (c.end_if_whole-e.ensures.whole c.if-e-eq0.false) in omega (arith, w.past)
 
 pub loop-p-preserved : goal.loop-p-preserved
-loop-p-preserved c = every-next _ _ _ _ c.loop-p.invariant _ (entry_is _ _ _ (c.end_if_whole-e.ensures.whole c.if-e-eq0.false) _ c.entry_good.ensures) _ (c.end_if_whole-e.ensures.whole c.if-e-eq0.false).is c.loop-p-test.true (c.if-not-entry_good.false)
+loop-p-preserved c = every_next _ _ _ _ c.loop-p.invariant _ (entry_is _ _ _ (c.end_if_whole-e.ensures.whole c.if-e-eq0.false) _ c.entry_good.ensures) _ (c.end_if_whole-e.ensures.whole c.if-e-eq0.false).is c.loop-p-test.true (c.if-not-entry_good.false)
 
 pub returns : goal.returns
-returns c = every-done _ _ _ _ c.loop-p.invariant c.loop-p-test.false
+returns c = every_done _ _ _ _ c.loop-p.invariant c.loop-p-test.false

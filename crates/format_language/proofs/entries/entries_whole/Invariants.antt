@@ -10,7 +10,7 @@ use Rattle.format_language.specs.LanguageFile.{entries_of}
 use Rattle.format_language.specs.Inner.Entries.{entry_whole}
 use Rattle.format_language.proofs.Holds.{entries_there}
 use Rattle.format_language.proofs.Returns.{entry_cut, entry_is}
-use Rattle.format_fields.proofs.Places.{every-done, every-stop, every-next}
+use Rattle.format_fields.proofs.Places.{every_done, every_stop, every_next}
 use borrow.Author.Rules.{rules}
 use Rattle.format_language.proofs.entries.entries_whole.Given as goal
 

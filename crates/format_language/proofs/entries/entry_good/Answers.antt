@@ -1,7 +1,7 @@
 use native.Mathlib.Omega.{arith}
 use mathlib.Core.Path.{refl}
 use Rattle.format_fields.proofs.Places.{size_of}
-use Rattle.format_language.proofs.Returns.{good_class, good-production, good-neither}
+use Rattle.format_language.proofs.Returns.{good_class, good_production, good_neither}
 use borrow.Author.Rules.{rules}
 use Rattle.format_language.proofs.entries.entry_good.Goals as goal
 
@@ -15,7 +15,7 @@ pub production_whole-requires : goal.production_whole-requires
 production_whole-requires c = (omega (arith, c.requires.past, c.requires.fits), size_of _ _ _ c.requires.is)
 
 pub returns-then-tag-eq-PRODUCTION : goal.returns-then-tag-eq-PRODUCTION
-returns-then-tag-eq-PRODUCTION c = good-production _ _ _ refl c.if-tag-eq-CLASS.false c.if-tag-eq-PRODUCTION.true _ c.production_whole.ensures
+returns-then-tag-eq-PRODUCTION c = good_production _ _ _ refl c.if-tag-eq-CLASS.false c.if-tag-eq-PRODUCTION.true _ c.production_whole.ensures
 
 pub returns : goal.returns
-returns c = good-neither _ _ _ refl c.if-tag-eq-CLASS.false c.if-tag-eq-PRODUCTION.false
+returns c = good_neither _ _ _ refl c.if-tag-eq-CLASS.false c.if-tag-eq-PRODUCTION.false

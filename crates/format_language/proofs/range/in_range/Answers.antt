@@ -1,5 +1,5 @@
 use native.Mathlib.Omega.{arith}
-use Rattle.format_language.proofs.Ranges.{class_long, value_below, value-above, value-single, value-steps}
+use Rattle.format_language.proofs.Ranges.{class_long, value_below, value_above, value_single, value_steps}
 use borrow.Author.Rules.{rules}
 use Rattle.format_language.proofs.range.in_range.Goals as goal
 
@@ -19,10 +19,10 @@ pub pair_in-requires : goal.pair_in-requires
 pair_in-requires c = omega (arith, class_long _ _ c.requires)
 
 pub returns-then-pair_in-value : goal.returns-then-pair_in-value
-returns-then-pair_in-value c = value-above _ _ _ _ c.pair_in-low.ensures.0 c.if-value-low.false _ c.pair_in.ensures.0 c.if-pair_in-value.true
+returns-then-pair_in-value c = value_above _ _ _ _ c.pair_in-low.ensures.0 c.if-value-low.false _ c.pair_in.ensures.0 c.if-pair_in-value.true
 
 pub returns-then-step-eq1 : goal.returns-then-step-eq1
-returns-then-step-eq1 c = value-single _ _ _ _ c.pair_in-low.ensures.0 c.if-value-low.false _ c.pair_in.ensures.0 c.if-pair_in-value.false _ c.step_at-step.ensures.0 c.if-step-eq1.true
+returns-then-step-eq1 c = value_single _ _ _ _ c.pair_in-low.ensures.0 c.if-value-low.false _ c.pair_in.ensures.0 c.if-pair_in-value.false _ c.step_at-step.ensures.0 c.if-step-eq1.true
 
 pub returns : goal.returns
-returns c = value-steps _ _ _ _ c.pair_in-low.ensures.0 c.if-value-low.false _ c.pair_in.ensures.0 c.if-pair_in-value.false _ c.step_at-step.ensures.0
+returns c = value_steps _ _ _ _ c.pair_in-low.ensures.0 c.if-value-low.false _ c.pair_in.ensures.0 c.if-pair_in-value.false _ c.step_at-step.ensures.0

@@ -1,7 +1,7 @@
 use mathlib.Core.Path.{sym, ◌∙◌}
 use borrow.Author.Tests.{not-true, not-false}
 use native.Mathlib.Omega.{arith}
-use Rattle.format_language.proofs.Ranges.{class_long, low_out, span-single, step-out, rest_small, last-in}
+use Rattle.format_language.proofs.Ranges.{class_long, low_out, span_single, step_out, rest_small, last_in}
 use borrow.Author.Rules.{rules}
 use Rattle.format_language.proofs.range.range_within.Goals as goal
 
@@ -21,10 +21,10 @@ pub pair_in-requires : goal.pair_in-requires
 pair_in-requires c = omega (arith, class_long _ _ c.requires.0)
 
 pub returns-then-span-step : goal.returns-then-span-step
-returns-then-span-step c = span-single _ _ _ _ c.requires.0 _ c.pair_in-low.ensures.0 (sym c.in_range.ensures ∙ c.if-not-in_range.false) _ c.pair_in.ensures.0 _ c.step_at-step.ensures.0 c.if-span-step.true
+returns-then-span-step c = span_single _ _ _ _ c.requires.0 _ c.pair_in-low.ensures.0 (sym c.in_range.ensures ∙ c.if-not-in_range.false) _ c.pair_in.ensures.0 _ c.step_at-step.ensures.0 c.if-span-step.true
 
 pub returns-then-step-step_at-ne0 : goal.returns-then-step-step_at-ne0
-returns-then-step-step_at-ne0 c = step-out _ _ _ _ c.requires.0 _ c.pair_in-low.ensures.0 (sym c.in_range.ensures ∙ c.if-not-in_range.false) _ c.pair_in.ensures.0 _ c.step_at-step.ensures.0 c.if-span-step.false _ c.step_at.ensures.0 c.if-step-step_at-ne0.true
+returns-then-step-step_at-ne0 c = step_out _ _ _ _ c.requires.0 _ c.pair_in-low.ensures.0 (sym c.in_range.ensures ∙ c.if-not-in_range.false) _ c.pair_in.ensures.0 _ c.step_at-step.ensures.0 c.if-span-step.false _ c.step_at.ensures.0 c.if-step-step_at-ne0.true
 
 pub overflow_sub-result : goal.overflow_sub-result
 overflow_sub-result c = rest_small _ _
@@ -36,4 +36,4 @@ pub pair_in-requires-2 : goal.pair_in-requires-2
 pair_in-requires-2 c = omega (arith, class_long _ _ c.requires.1)
 
 pub returns : goal.returns
-returns c = last-in _ _ _ _ c.requires.0 _ c.pair_in-low.ensures.0 (sym c.in_range.ensures ∙ c.if-not-in_range.false) _ c.pair_in.ensures.0 _ c.step_at-step.ensures.0 c.if-span-step.false _ c.step_at.ensures.0 c.if-step-step_at-ne0.false _ c.pair_in-2.ensures.0
+returns c = last_in _ _ _ _ c.requires.0 _ c.pair_in-low.ensures.0 (sym c.in_range.ensures ∙ c.if-not-in_range.false) _ c.pair_in.ensures.0 _ c.step_at-step.ensures.0 c.if-span-step.false _ c.step_at.ensures.0 c.if-step-step_at-ne0.false _ c.pair_in-2.ensures.0

@@ -6,7 +6,7 @@ use lib.ListN.{length, get_elem?}
 use Rattle.format_fields.specs.Lists.{all, keep}
 use Rattle.format_fields.specs.Inner.Places.{is_whole, places_from, tag_is}
 use Rattle.format_pack.specs.Inner.Parts.{tagged}
-use Rattle.format_pack.proofs.Standing.{place_start, place_none, place-next, place_other, stands_here}
+use Rattle.format_pack.proofs.Standing.{place_start, place_none, place_next, place_other, stands_here}
 use Rattle.format_fields.proofs.Places.{head_there, every_here, every_after}
 use borrow.Author.Rules.{rules}
 use Rattle.format_pack.proofs.parts.field_place.Statement.{statement}
@@ -28,7 +28,7 @@ returns : tie.Need-returns invariant-loop decreases-loop
 returns c = stands_here _ _ _ _ _ c.before.before.before.before.before.loop.invariant.1 _ c.before.before.before.whole-end.ensures.is c.before.before.before.before.loop-test.true _ refl c.before.if1.true c.if2.true (every_here _ _ _ c.before.before.before.before.before.loop.invariant.0 c.before.before.before.before.loop-test.true).0
 
 loop-again : tie.Need-loop-preserved invariant-loop decreases-loop
-loop-again c = (every_after _ _ _ _ c.before.before.before.whole-end.ensures.is c.before.before.before.before.before.loop.invariant.0 c.before.before.before.before.loop-test.true, place-next _ _ _ _ _ c.before.before.before.before.before.loop.invariant.1 _ c.before.before.before.whole-end.ensures.is c.before.before.before.before.loop-test.true _ refl c.before.if1.true c.if2.false)
+loop-again c = (every_after _ _ _ _ c.before.before.before.whole-end.ensures.is c.before.before.before.before.before.loop.invariant.0 c.before.before.before.before.loop-test.true, place_next _ _ _ _ _ c.before.before.before.before.before.loop.invariant.1 _ c.before.before.before.whole-end.ensures.is c.before.before.before.before.loop-test.true _ refl c.before.if1.true c.if2.false)
 
 loop-again-2 : tie.Need-loop-preserved-2 invariant-loop decreases-loop
 loop-again-2 c = (every_after _ _ _ _ c.before.before.whole-end.ensures.is c.before.before.before.before.loop.invariant.0 c.before.before.before.loop-test.true, place_other _ _ _ _ _ c.before.before.before.before.loop.invariant.1 _ c.before.before.whole-end.ensures.is c.before.before.before.loop-test.true _ refl c.if1.false)

@@ -1,7 +1,7 @@
 use borrow.Author.Rules.{rules}
 use mathlib.Core.Path.{refl}
 use native.Mathlib.Omega.{arith}
-use Rattle.format_pack.proofs.Readings.{term_none, term-deep, term-sign, term-first, term-second, term_whole, end_in}
+use Rattle.format_pack.proofs.Readings.{term_none, term_deep, term_sign, term_first, term_second, term_whole, end_in}
 use Prim.Native.Nat.{ℕ, ◌<◌}
 use borrow.Fn.Kinds.{In}
 use borrow.Fn.PlainCycle.{Measures, is, falls, and}
@@ -33,25 +33,25 @@ term-end-returns : (t : ℕ) → term-end-lts.Need-returns (term-end-calls t) (t
 term-end-returns t c = (term_none _ _ _ _ c.before.before.args.s.now c.before.before.args.at c.if1.true, c.before.before.requires.1.1)
 
 term-end-returns-2 : (t : ℕ) → term-end-lts.Need-returns-2 (term-end-calls t) (term-end-at t) term-end.Post
-term-end-returns-2 t c = (term-deep _ _ _ _ c.before.before.before.args.s.now c.before.before.before.args.at c.before.if1.false c.if2.true, tt)
+term-end-returns-2 t c = (term_deep _ _ _ _ c.before.before.before.args.s.now c.before.before.before.args.at c.before.if1.false c.if2.true, tt)
 
 term-end-sign-end-requires : (t : ℕ) → term-end-lts.Need-sign-end-requires (term-end-calls t) (term-end-at t) term-end.Post
 term-end-sign-end-requires t c κs = c.before.before.before.requires.1.0
 
 term-end-returns-3 : (t : ℕ) → term-end-lts.Need-returns-3 (term-end-calls t) (term-end-at t) term-end.Post
-term-end-returns-3 t c = (term-sign _ _ _ _ c.before.before.before.before.before.before.args.s.now c.before.before.before.before.before.before.args.at c.before.before.before.before.if1.false c.before.before.before.before.before.before.requires.1.0 c.before.before.before.if2.false _ refl _ c.before.before.sign-end.ensures.0 c.enum_told.given.1, tt)
+term-end-returns-3 t c = (term_sign _ _ _ _ c.before.before.before.before.before.before.args.s.now c.before.before.before.before.before.before.args.at c.before.before.before.before.if1.false c.before.before.before.before.before.before.requires.1.0 c.before.before.before.if2.false _ refl _ c.before.before.sign-end.ensures.0 c.enum_told.given.1, tt)
 
 term-end-term-end-requires : (t : ℕ) → term-end-lts.Need-term-end-requires (term-end-calls t) (term-end-at t) term-end.Post
 term-end-term-end-requires t c κs = (omega (arith, c.before.before.before.before.before.before.before.before.before.requires.0, c.before.before.before.before.before.before.if2.false), (c.first-operand.ensures.1, end_in _ _ _ c.before.before.before.a.given.1 c.before.before.before.before.before.sign-end.ensures.1))
 
 term-end-returns-4 : (t : ℕ) → term-end-lts.Need-returns-4 (term-end-calls t) (term-end-at t) term-end.Post
-term-end-returns-4 t c = (term-first _ _ _ _ _ _ c.before.before.before.before.before.before.before.before.before.before.if1.false c.before.before.before.before.before.before.before.before.before.before.before.before.requires.1.0 c.before.before.before.before.before.before.before.before.before.if2.false _ c.before.before.before.before.byte_at.ensures _ c.before.before.before.before.before.before.before.before.sign-end.ensures.0 _ c.before.before.before.before.before.before.a.given.1 _ c.before.before.before.first-operand.ensures.0 _ c.before.before.term-end.ensures.0 c.enum-told2.given.1, tt)
+term-end-returns-4 t c = (term_first _ _ _ _ _ _ c.before.before.before.before.before.before.before.before.before.before.if1.false c.before.before.before.before.before.before.before.before.before.before.before.before.requires.1.0 c.before.before.before.before.before.before.before.before.before.if2.false _ c.before.before.before.before.byte_at.ensures _ c.before.before.before.before.before.before.before.before.sign-end.ensures.0 _ c.before.before.before.before.before.before.a.given.1 _ c.before.before.before.first-operand.ensures.0 _ c.before.before.term-end.ensures.0 c.enum-told2.given.1, tt)
 
 term-end-term-end-requires-2 : (t : ℕ) → term-end-lts.Need-term-end-requires-2 (term-end-calls t) (term-end-at t) term-end.Post
 term-end-term-end-requires-2 t c κs = (omega (arith, c.before.before.before.before.before.before.before.before.before.before.before.before.before.before.requires.0, c.before.before.before.before.before.before.before.before.before.before.before.if2.false), (c.second-operand.ensures.1, end_in _ _ _ c.before.before.b.given.1 c.before.before.before.before.term-end.ensures.1))
 
 term-end-returns-5 : (t : ℕ) → term-end-lts.Need-returns-5 (term-end-calls t) (term-end-at t) term-end.Post
-term-end-returns-5 t c = (term-second _ _ _ _ _ _ c.before.before.before.before.before.before.before.before.before.before.before.before.before.before.before.if1.false c.before.before.before.before.before.before.before.before.before.before.before.before.before.before.before.before.before.requires.1.0 c.before.before.before.before.before.before.before.before.before.before.before.before.before.before.if2.false _ c.before.before.before.before.before.before.before.before.before.byte_at.ensures _ c.before.before.before.before.before.before.before.before.before.before.before.before.before.sign-end.ensures.0 _ c.before.before.before.before.before.before.before.before.before.before.before.a.given.1 _ c.before.before.before.before.before.before.before.before.first-operand.ensures.0 _ c.before.before.before.before.before.before.before.term-end.ensures.0 _ c.before.before.before.before.before.b.given.1 _ c.before.before.before.second-operand.ensures.0 _ c.before.before.term-end2.ensures.0 c.enum-told3.given.1, tt)
+term-end-returns-5 t c = (term_second _ _ _ _ _ _ c.before.before.before.before.before.before.before.before.before.before.before.before.before.before.before.if1.false c.before.before.before.before.before.before.before.before.before.before.before.before.before.before.before.before.before.requires.1.0 c.before.before.before.before.before.before.before.before.before.before.before.before.before.before.if2.false _ c.before.before.before.before.before.before.before.before.before.byte_at.ensures _ c.before.before.before.before.before.before.before.before.before.before.before.before.before.sign-end.ensures.0 _ c.before.before.before.before.before.before.before.before.before.before.before.a.given.1 _ c.before.before.before.before.before.before.before.before.first-operand.ensures.0 _ c.before.before.before.before.before.before.before.term-end.ensures.0 _ c.before.before.before.before.before.b.given.1 _ c.before.before.before.second-operand.ensures.0 _ c.before.before.term-end2.ensures.0 c.enum-told3.given.1, tt)
 
 term-end-last-end-requires : (t : ℕ) → term-end-lts.Need-last-end-requires (term-end-calls t) (term-end-at t) term-end.Post
 term-end-last-end-requires t c κs = end_in _ _ _ c.before.c.given.1 c.before.before.before.term-end2.ensures.1

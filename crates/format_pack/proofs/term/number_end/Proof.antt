@@ -1,5 +1,5 @@
 use native.Mathlib.Omega.{arith}
-use Rattle.format_pack.proofs.Readings.{number_past, number-over, number_in_lem}
+use Rattle.format_pack.proofs.Readings.{number_past, number_over, number_in_lem}
 use borrow.Author.Rules.{rules}
 use Rattle.format_pack.proofs.term.number_end.Statement.{statement}
 use Rattle.format_pack.proofs.term.number_end.Tie as tie
@@ -11,7 +11,7 @@ returns : tie.Need-returns
 returns c = (number_past _ _ _ c.if1.true, tt)
 
 returns-2 : tie.Need-returns-2
-returns-2 c = (number-over _ _ _ c.before.before.before.if1.false _ c.before.to-usize.ensures.0 c.if2.true, tt)
+returns-2 c = (number_over _ _ _ c.before.before.before.if1.false _ c.before.to-usize.ensures.0 c.if2.true, tt)
 
 returns-3 : tie.Need-returns-3
 returns-3 c = (number_in_lem _ _ _ c.before.before.before.if1.false _ c.before.to-usize.ensures.0 c.if2.false, omega arith)

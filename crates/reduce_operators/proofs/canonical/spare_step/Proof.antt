@@ -1,4 +1,4 @@
-use Rattle.reduce_operators.proofs.Rewriting.{spare_other, spare-short, spare-long}
+use Rattle.reduce_operators.proofs.Rewriting.{spare_other, spare_short, spare_long}
 use borrow.Author.Rules.{rules}
 use Rattle.reduce_operators.proofs.canonical.spare_step.Statement.{statement}
 use Rattle.reduce_operators.proofs.canonical.spare_step.Tie as tie
@@ -11,10 +11,10 @@ returns : tie.Need-returns
 returns c = spare_other _ _ _ c.before.byte_at.ensures c.if1.true
 
 returns-2 : tie.Need-returns-2
-returns-2 c = spare-short _ _ _ c.before.before.before.byte_at.ensures c.before.before.if1.false _ c.before.pair-at.ensures.0 c.if2.true
+returns-2 c = spare_short _ _ _ c.before.before.before.byte_at.ensures c.before.before.if1.false _ c.before.pair-at.ensures.0 c.if2.true
 
 returns-3 : tie.Need-returns-3
-returns-3 c = spare-long _ _ _ c.before.before.before.before.byte_at.ensures c.before.before.before.if1.false _ c.before.before.pair-at.ensures.0 c.before.if2.false _ c.pair-at2.ensures.0
+returns-3 c = spare_long _ _ _ c.before.before.before.before.byte_at.ensures c.before.before.before.if1.false _ c.before.before.pair-at.ensures.0 c.before.if2.false _ c.pair-at2.ensures.0
 
 pub spare-step-spec : {M : Type 1} → statement M
 spare-step-spec =

@@ -1,6 +1,6 @@
 use native.Mathlib.Omega.{arith}
 use Prim.Native.Nat.{◌-◌}
-use Rattle.reduce_merge.proofs.Turns.{progress-on, progress-full, progress_done}
+use Rattle.reduce_merge.proofs.Turns.{progress_on, progress_full, progress_done}
 use Rattle.reduce_operators.proofs.SameItem.{Kinding, kinding_start, kinding_turn, kinding_end, marked_at}
 use borrow.Author.Rules.{rules}
 use Rattle.reduce_operators.proofs.identity.put_marked.Statement.{statement}
@@ -26,10 +26,10 @@ put-kind-requires : tie.Need-put-kind-requires invariant-loop decreases-loop
 put-kind-requires c κs = c.before.before.before.before.loop.invariant.room
 
 returns : tie.Need-returns invariant-loop decreases-loop
-returns c = λ l e. progress-full _ _ _ _ _ (c.before.before.before.before.before.before.before.before.before.loop.invariant.progress l e) _ _ (kinding_turn l _ c.before.before.before.before.before.before.before.before.loop-test.true) _ _ (c.before.before.before.before.put-kind.ensures l (marked_at c.before.before.before.before.before.before.before.before.before.before.before.before.args.marked.now l _ _ e c.before.before.before.before.before.before.before.before.loop-test.true c.before.before.before.before.before.before.before.to-usize.ensures.0)) c.enum_told.given.1
+returns c = λ l e. progress_full _ _ _ _ _ (c.before.before.before.before.before.before.before.before.before.loop.invariant.progress l e) _ _ (kinding_turn l _ c.before.before.before.before.before.before.before.before.loop-test.true) _ _ (c.before.before.before.before.put-kind.ensures l (marked_at c.before.before.before.before.before.before.before.before.before.before.before.before.args.marked.now l _ _ e c.before.before.before.before.before.before.before.before.loop-test.true c.before.before.before.before.before.before.before.to-usize.ensures.0)) c.enum_told.given.1
 
 loop-again : tie.Need-loop-preserved invariant-loop decreases-loop
-loop-again c = record { progress = λ l e. progress-on _ _ _ _ _ (c.before.before.before.before.before.before.before.before.before.before.loop.invariant.progress l e) _ _ (kinding_turn l _ c.before.before.before.before.before.before.before.before.before.loop-test.true) _ _ (c.before.before.before.before.before.put-kind.ensures l (marked_at c.before.before.before.before.before.before.before.before.before.before.before.before.before.args.marked.now l _ _ e c.before.before.before.before.before.before.before.before.before.loop-test.true c.before.before.before.before.before.before.before.before.to-usize.ensures.0)) _ c.before.m.given.1 c.before.before.before.before.before.put-kind.auto.1.1.0; room = omega (arith, ((c.before.before.before.before.before.put-kind.ensures _ (marked_at c.before.before.before.before.before.before.before.before.before.before.before.before.before.args.marked.now _ _ _ c.before.before.before.before.before.before.before.before.before.before.before.before.before.requires.1.1 c.before.before.before.before.before.before.before.before.before.loop-test.true c.before.before.before.before.before.before.before.before.to-usize.ensures.0)).done _ c.before.m.given.1).fits, c.before.before.before.before.before.put-kind.auto.1.1.0); long = omega (arith, c.before.before.before.before.before.put-kind.auto.1.1.0, c.before.before.before.before.before.before.before.before.before.before.loop.invariant.long); inside = omega arith }
+loop-again c = record { progress = λ l e. progress_on _ _ _ _ _ (c.before.before.before.before.before.before.before.before.before.before.loop.invariant.progress l e) _ _ (kinding_turn l _ c.before.before.before.before.before.before.before.before.before.loop-test.true) _ _ (c.before.before.before.before.before.put-kind.ensures l (marked_at c.before.before.before.before.before.before.before.before.before.before.before.before.before.args.marked.now l _ _ e c.before.before.before.before.before.before.before.before.before.loop-test.true c.before.before.before.before.before.before.before.before.to-usize.ensures.0)) _ c.before.m.given.1 c.before.before.before.before.before.put-kind.auto.1.1.0; room = omega (arith, ((c.before.before.before.before.before.put-kind.ensures _ (marked_at c.before.before.before.before.before.before.before.before.before.before.before.before.before.args.marked.now _ _ _ c.before.before.before.before.before.before.before.before.before.before.before.before.before.requires.1.1 c.before.before.before.before.before.before.before.before.before.loop-test.true c.before.before.before.before.before.before.before.before.to-usize.ensures.0)).done _ c.before.m.given.1).fits, c.before.before.before.before.before.put-kind.auto.1.1.0); long = omega (arith, c.before.before.before.before.before.put-kind.auto.1.1.0, c.before.before.before.before.before.before.before.before.before.before.loop.invariant.long); inside = omega arith }
 
 returns-2 : tie.Need-returns-2 invariant-loop decreases-loop
 returns-2 c = λ l e. progress_done _ _ _ _ _ (c.before.loop.invariant.progress l e) (kinding_end l _ c.loop-test.false)

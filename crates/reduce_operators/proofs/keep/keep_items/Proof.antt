@@ -2,7 +2,7 @@ use native.Mathlib.Omega.{arith}
 use borrow.Author.Rules.{rules}
 use Prim.Native.Nat.{◌-◌}
 use lib.ListN.{length}
-use Rattle.reduce_merge.proofs.Turns.{progress-on, progress-full, progress_done}
+use Rattle.reduce_merge.proofs.Turns.{progress_on, progress_full, progress_done}
 use Rattle.reduce_operators.proofs.Keeping.{Keeping, keeping_start, item_here, item_inside, items_next, keeping_turn, walk_done}
 use Rattle.reduce_operators.proofs.keep.keep_items.Statement.{statement}
 use Rattle.reduce_operators.proofs.keep.keep_items.Tie as tie
@@ -23,10 +23,10 @@ put-if-requires : tie.Need-put-if-requires invariant-loop decreases-loop
 put-if-requires c κs = (item_inside _ _ c.before.before.before.before.loop.invariant.whole c.before.before.before.loop-test.true _ c.before.before.field-end.ensures.is, c.before.before.before.before.loop.invariant.room)
 
 returns : tie.Need-returns invariant-loop decreases-loop
-returns c = λ l z. progress-full _ _ _ _ _ (c.before.before.before.before.before.before.before.before.before.loop.invariant.progress l z) _ _ (keeping_turn _ _ c.before.before.before.before.before.before.before.before.before.loop.invariant.whole c.before.before.before.before.before.before.before.before.loop-test.true l _ c.before.before.before.before.before.before.before.field-end.ensures.is _ (c.before.before.before.before.before.before.stays.ensures l z)) _ _ c.before.before.before.before.put_if.ensures c.enum_told.given.1
+returns c = λ l z. progress_full _ _ _ _ _ (c.before.before.before.before.before.before.before.before.before.loop.invariant.progress l z) _ _ (keeping_turn _ _ c.before.before.before.before.before.before.before.before.before.loop.invariant.whole c.before.before.before.before.before.before.before.before.loop-test.true l _ c.before.before.before.before.before.before.before.field-end.ensures.is _ (c.before.before.before.before.before.before.stays.ensures l z)) _ _ c.before.before.before.before.put_if.ensures c.enum_told.given.1
 
 loop-again : tie.Need-loop-preserved invariant-loop decreases-loop
-loop-again c = record { progress = λ l z. progress-on _ _ _ _ _ (c.before.before.before.before.before.before.before.before.before.before.loop.invariant.progress l z) _ _ (keeping_turn _ _ c.before.before.before.before.before.before.before.before.before.before.loop.invariant.whole c.before.before.before.before.before.before.before.before.before.loop-test.true l _ c.before.before.before.before.before.before.before.before.field-end.ensures.is _ (c.before.before.before.before.before.before.before.stays.ensures l z)) _ _ c.before.before.before.before.before.put_if.ensures _ c.before.m.given.1 c.before.before.before.before.before.put_if.auto.1.1.1.1.0; whole = items_next _ _ c.before.before.before.before.before.before.before.before.before.before.loop.invariant.whole c.before.before.before.before.before.before.before.before.before.loop-test.true _ c.before.before.before.before.before.before.before.before.field-end.ensures.is; room = omega (arith, (c.before.before.before.before.before.put_if.ensures.done _ c.before.m.given.1).fits, c.before.before.before.before.before.put_if.auto.1.1.1.1.0); long = omega (arith, c.before.before.before.before.before.put_if.auto.1.1.1.1.0, c.before.before.before.before.before.before.before.before.before.before.loop.invariant.long) }
+loop-again c = record { progress = λ l z. progress_on _ _ _ _ _ (c.before.before.before.before.before.before.before.before.before.before.loop.invariant.progress l z) _ _ (keeping_turn _ _ c.before.before.before.before.before.before.before.before.before.before.loop.invariant.whole c.before.before.before.before.before.before.before.before.before.loop-test.true l _ c.before.before.before.before.before.before.before.before.field-end.ensures.is _ (c.before.before.before.before.before.before.before.stays.ensures l z)) _ _ c.before.before.before.before.before.put_if.ensures _ c.before.m.given.1 c.before.before.before.before.before.put_if.auto.1.1.1.1.0; whole = items_next _ _ c.before.before.before.before.before.before.before.before.before.before.loop.invariant.whole c.before.before.before.before.before.before.before.before.before.loop-test.true _ c.before.before.before.before.before.before.before.before.field-end.ensures.is; room = omega (arith, (c.before.before.before.before.before.put_if.ensures.done _ c.before.m.given.1).fits, c.before.before.before.before.before.put_if.auto.1.1.1.1.0); long = omega (arith, c.before.before.before.before.before.put_if.auto.1.1.1.1.0, c.before.before.before.before.before.before.before.before.before.before.loop.invariant.long) }
 
 returns-2 : tie.Need-returns-2 invariant-loop decreases-loop
 returns-2 c = λ l z. progress_done _ _ _ _ _ (c.before.loop.invariant.progress l z) (walk_done _ _ _ c.loop-test.false)

@@ -1,7 +1,7 @@
 use mathlib.Core.Path.{refl}
 use Rattle.tree_reader.proofs.Lookup.{zeros}
 use Rattle.reduce_operators.proofs.Given.{stored_room, stored_length}
-use Rattle.reduce_operators.proofs.Keeping.{left_entries, left_body, left_target, kept-too-long, kept-given}
+use Rattle.reduce_operators.proofs.Keeping.{left_entries, left_body, left_target, kept_too_long, kept_given}
 use borrow.Author.Rules.{rules}
 use Rattle.reduce_operators.proofs.keep.keep_parts.Statement.{statement}
 use Rattle.reduce_operators.proofs.keep.keep_parts.Tie as tie
@@ -13,7 +13,7 @@ keep-items-requires : tie.Need-keep-items-requires
 keep-items-requires c κs = ((_, left_body _ _ _ _ _ c.before.before.before.before.before.before.before.before.before.requires.0.2), (_, c.before.before.before.build.ensures _ (left_entries _ _ _ _ _ c.before.before.before.before.before.before.before.before.before.requires.0.2)))
 
 returns : tie.Need-returns
-returns c = λ f m w. kept-too-long _ _ _ f m w _ _ _ (c.before.before.before.keep-items.ensures _ (c.before.before.before.before.before.before.before.build.ensures _ (left_entries _ _ _ f m w))) _ c.enum_told.given.1 refl
+returns c = λ f m w. kept_too_long _ _ _ f m w _ _ _ (c.before.before.before.keep-items.ensures _ (c.before.before.before.before.before.before.before.build.ensures _ (left_entries _ _ _ f m w))) _ c.enum_told.given.1 refl
 
 array-share-prefix-kept : tie.Need-array-share-prefix-kept
 array-share-prefix-kept c = stored_room _ _ _ _ _ (c.before.before.before.before.keep-items.ensures _ (c.before.before.before.before.before.before.before.before.build.ensures _ (left_entries _ _ _ _ _ c.before.before.before.before.before.before.before.before.before.before.before.before.before.before.requires.0.2))) c.before.k.given.1 c.before.before.before.before.keep-items.auto.1.1.1.0
@@ -25,7 +25,7 @@ assemble-requires : tie.Need-assemble-requires
 assemble-requires c κs = (c.before.before.before.before.before.before.before.before.before.before.before.before.before.before.before.before.requires.0.2.short, left_target _ _ _ _ _ c.before.before.before.before.before.before.before.before.before.before.before.before.before.before.before.before.requires.0.2, c.before.before.before.before.before.before.before.before.before.before.before.before.before.before.before.before.requires.1)
 
 returns-2 : tie.Need-returns-2
-returns-2 c = λ f m w. kept-given _ _ _ f m w _ _ _ (c.before.before.before.before.before.before.before.before.before.keep-items.ensures _ (c.before.before.before.before.before.before.before.before.before.before.before.before.before.build.ensures _ (left_entries _ _ _ f m w))) _ c.before.before.before.before.before.before.k.given.1 _ _ _ c.before.before.assemble.ensures
+returns-2 c = λ f m w. kept_given _ _ _ f m w _ _ _ (c.before.before.before.before.before.before.before.before.before.keep-items.ensures _ (c.before.before.before.before.before.before.before.before.before.before.before.before.before.build.ensures _ (left_entries _ _ _ f m w))) _ c.before.before.before.before.before.before.k.given.1 _ _ _ c.before.before.assemble.ensures
 
 pub keep-parts-spec : {M : Type 1} → statement M
 keep-parts-spec =

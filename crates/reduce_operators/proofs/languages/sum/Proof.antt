@@ -1,6 +1,6 @@
 use native.Mathlib.Omega.{arith}
 use borrow.Author.Tests.{not-true, not-false}
-use Rattle.reduce_operators.proofs.LanguageLaws.{language_sorted, sum_unfit, sum-given, language_rises}
+use Rattle.reduce_operators.proofs.LanguageLaws.{language_sorted, sum_unfit, sum_given, language_rises}
 use borrow.Author.Rules.{rules}
 use Rattle.reduce_operators.proofs.languages.sum.Statement.{statement}
 use Rattle.reduce_operators.proofs.languages.sum.Tie as tie
@@ -15,7 +15,7 @@ merge-requires : tie.Need-merge-requires
 merge-requires c κs = (language_sorted _ c.before.before.before.before.before.before.requires.0.0 c.before.before.before.before.before.before.requires.0.1, language_sorted _ c.before.before.before.before.before.before.requires.1.0 c.before.before.before.before.before.before.requires.1.1)
 
 returns-2 : tie.Need-returns-2
-returns-2 c = λ l m e d. sum-given _ _ l m e d _ _ c.before.before.before.merge.auto.1.1.1.0 c.before.before.before.before.before.before.before.before.before.before.requires.2 _ _ c.limited.ensures _ c.before.before.before.before.before.before.languages-fit.ensures (not-false _ c.before.before.before.before.before.if1.false) c.before.before.before.merge.ensures
+returns-2 c = λ l m e d. sum_given _ _ l m e d _ _ c.before.before.before.merge.auto.1.1.1.0 c.before.before.before.before.before.before.before.before.before.before.requires.2 _ _ c.limited.ensures _ c.before.before.before.before.before.before.languages-fit.ensures (not-false _ c.before.before.before.before.before.if1.false) c.before.before.before.merge.ensures
 
 pub sum-spec : {M : Type 1} → statement M
 sum-spec =

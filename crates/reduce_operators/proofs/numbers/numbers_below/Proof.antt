@@ -9,7 +9,7 @@ use Rattle.format_translation.specs.TranslationFile.{body_of}
 use Rattle.format_translation.proofs.Uses.{Front, front_start, put_here, front_next}
 use borrow.Author.Rules.{rules}
 use Rattle.reduce_operators.specs.Inner.Numbers.{mapping_below}
-use Rattle.reduce_operators.proofs.Numbering.{Passing, passing_start, passing-clause, passing-fails, passing-next, passing-end, below_clauses, not_below, is_below}
+use Rattle.reduce_operators.proofs.Numbering.{Passing, passing_start, passing_clause, passing_fails, passing_next, passing_end, below_clauses, not_below, is_below}
 use Rattle.reduce_operators.proofs.numbers.numbers_below.Statement.{statement}
 use Rattle.reduce_operators.proofs.numbers.numbers_below.Tie as tie
 use Rattle.reduce_operators.proofs.numbers.numbers_below.Reads as reads
@@ -28,13 +28,13 @@ loop-holds : tie.Need-loop-init invariant-loop decreases-loop
 loop-holds c = (front_start _ c.before.requires.0 c.before.requires.1, λ b e. passing_start (mapping_below _) (below_clauses _) _ b e)
 
 returns : tie.Need-returns invariant-loop decreases-loop
-returns c = λ b e. passing-clause (mapping_below _) (below_clauses _) _ _ b (c.before.before.before.before.loop.invariant.1 b e) c.before.before.before.loop-test.true c.before.before.before.before.loop.invariant.0 (sym c.before.is-clause.ensures ∙ c.if1.true)
+returns c = λ b e. passing_clause (mapping_below _) (below_clauses _) _ _ b (c.before.before.before.before.loop.invariant.1 b e) c.before.before.before.loop-test.true c.before.before.before.before.loop.invariant.0 (sym c.before.is-clause.ensures ∙ c.if1.true)
 
 order-at-requires : tie.Need-order-at-requires invariant-loop decreases-loop
 order-at-requires c κs = let m = put_here _ _ c.before.before.before.before.loop.invariant.0 c.before.before.before.loop-test.true (sym c.before.is-clause.ensures ∙ c.if1.false) in omega (arith, m.ends.0, m.ends.1)
 
 returns-2 : tie.Need-returns-2 invariant-loop decreases-loop
-returns-2 c = λ b e. passing-fails (mapping_below _) (below_clauses _) _ _ b (c.before.before.before.before.before.before.loop.invariant.1 b e) c.before.before.before.before.before.loop-test.true (not_below _ _ _ _ (put_here _ _ c.before.before.before.before.before.before.loop.invariant.0 c.before.before.before.before.before.loop-test.true (sym c.before.before.before.is-clause.ensures ∙ c.before.before.if1.false)) c.before.order-at.ensures.0 c.if2.true)
+returns-2 c = λ b e. passing_fails (mapping_below _) (below_clauses _) _ _ b (c.before.before.before.before.before.before.loop.invariant.1 b e) c.before.before.before.before.before.loop-test.true (not_below _ _ _ _ (put_here _ _ c.before.before.before.before.before.before.loop.invariant.0 c.before.before.before.before.before.loop-test.true (sym c.before.before.before.is-clause.ensures ∙ c.before.before.if1.false)) c.before.order-at.ensures.0 c.if2.true)
 
 whole-end-requires : tie.Need-whole-end-requires invariant-loop decreases-loop
 whole-end-requires c κs = let m = put_here _ _ c.before.before.before.before.before.before.loop.invariant.0 c.before.before.before.before.before.loop-test.true (sym c.before.before.before.is-clause.ensures ∙ c.before.before.if1.false) in omega (arith, m.ends.0, m.ends.1)
@@ -43,10 +43,10 @@ loop-less : tie.Need-loop-smaller invariant-loop decreases-loop
 loop-less c = omega (arith, c.whole-end.ensures.past, c.before.before.before.before.before.before.loop-test.true)
 
 loop-again : tie.Need-loop-preserved invariant-loop decreases-loop
-loop-again c = (front_next _ _ c.before.before.before.before.before.before.before.loop.invariant.0 c.before.before.before.before.before.before.loop-test.true (sym c.before.before.before.before.is-clause.ensures ∙ c.before.before.before.if1.false) _ c.whole-end.ensures.is, λ b e. passing-next (mapping_below _) (below_clauses _) _ _ b (c.before.before.before.before.before.before.before.loop.invariant.1 b e) c.before.before.before.before.before.before.loop-test.true (is_below _ _ _ _ (put_here _ _ c.before.before.before.before.before.before.before.loop.invariant.0 c.before.before.before.before.before.before.loop-test.true (sym c.before.before.before.before.is-clause.ensures ∙ c.before.before.before.if1.false)) c.before.before.order-at.ensures.0 c.before.if2.false) _ c.whole-end.ensures.is)
+loop-again c = (front_next _ _ c.before.before.before.before.before.before.before.loop.invariant.0 c.before.before.before.before.before.before.loop-test.true (sym c.before.before.before.before.is-clause.ensures ∙ c.before.before.before.if1.false) _ c.whole-end.ensures.is, λ b e. passing_next (mapping_below _) (below_clauses _) _ _ b (c.before.before.before.before.before.before.before.loop.invariant.1 b e) c.before.before.before.before.before.before.loop-test.true (is_below _ _ _ _ (put_here _ _ c.before.before.before.before.before.before.before.loop.invariant.0 c.before.before.before.before.before.before.loop-test.true (sym c.before.before.before.before.is-clause.ensures ∙ c.before.before.before.if1.false)) c.before.before.order-at.ensures.0 c.before.if2.false) _ c.whole-end.ensures.is)
 
 returns-3 : tie.Need-returns-3 invariant-loop decreases-loop
-returns-3 c = λ b e. passing-end (mapping_below _) (below_clauses _) _ _ b (c.before.loop.invariant.1 b e) c.loop-test.false
+returns-3 c = λ b e. passing_end (mapping_below _) (below_clauses _) _ _ b (c.before.loop.invariant.1 b e) c.loop-test.false
 
 pub numbers-below-spec : {M : Type 1} → statement M
 numbers-below-spec =

@@ -1,5 +1,5 @@
 use borrow.Author.Tests.{not-true, not-false}
-use Rattle.reduce_operators.proofs.TranslationLaws.{body_sorted, body_read, body_short, sources-unfit, targets-unfit, numbers_fit, numbers_unfit, all_fit, source_rises, target_rises}
+use Rattle.reduce_operators.proofs.TranslationLaws.{body_sorted, body_read, body_short, sources_unfit, targets_unfit, numbers_fit, numbers_unfit, all_fit, source_rises, target_rises}
 use Rattle.reduce_operators.proofs.translations.parts_fit.Statement.{statement}
 use Rattle.reduce_operators.proofs.translations.parts_fit.Tie as tie
 use Rattle.reduce_operators.proofs.translations.parts_fit.Reads as reads
@@ -12,13 +12,13 @@ languages-fit-requires : tie.Need-languages-fit-requires
 languages-fit-requires c κs = (source_rises _ _ _ _ c.before.before.before.before.before.before.requires.0.1, source_rises _ _ _ _ c.before.before.before.before.before.before.requires.1.1)
 
 returns : tie.Need-returns
-returns c = λ f g p q. sources-unfit _ _ _ _ _ _ f g p q _ c.before.languages-fit.ensures (not-true _ c.if1.true)
+returns c = λ f g p q. sources_unfit _ _ _ _ _ _ f g p q _ c.before.languages-fit.ensures (not-true _ c.if1.true)
 
 languages-fit-requires-2 : tie.Need-languages-fit-requires-2
 languages-fit-requires-2 c κs = (target_rises _ _ _ _ c.before.before.before.before.before.before.before.before.requires.0.1, target_rises _ _ _ _ c.before.before.before.before.before.before.before.before.requires.1.1)
 
 returns-2 : tie.Need-returns-2
-returns-2 c = λ f g p q. targets-unfit _ _ _ _ _ _ f g p q _ c.before.before.before.languages-fit.ensures (not-false _ c.before.before.if1.false) _ c.before.languages-fit2.ensures (not-true _ c.if2.true)
+returns-2 c = λ f g p q. targets_unfit _ _ _ _ _ _ f g p q _ c.before.before.before.languages-fit.ensures (not-false _ c.before.before.if1.false) _ c.before.languages-fit2.ensures (not-true _ c.if2.true)
 
 numbers-agree-requires : tie.Need-numbers-agree-requires
 numbers-agree-requires c κs = ((_, body_read _ _ _ _ c.before.before.before.before.before.before.before.before.before.before.requires.0.1), (_, body_read _ _ _ _ c.before.before.before.before.before.before.before.before.before.before.requires.1.1), body_short _ _ _ _ c.before.before.before.before.before.before.before.before.before.before.requires.0.1, body_short _ _ _ _ c.before.before.before.before.before.before.before.before.before.before.requires.1.1)

@@ -1,6 +1,6 @@
 use Rattle.reduce_operators.proofs.Given.{stored_room, stored_length, stored_short}
 use mathlib.Core.Path.{refl}
-use Rattle.reduce_operators.proofs.TranslationLaws.{source_sorted, target_sorted, body_sorted, source-too-long, target-too-long, body-too-long, united_given}
+use Rattle.reduce_operators.proofs.TranslationLaws.{source_sorted, target_sorted, body_sorted, source_too_long, target_too_long, body_too_long, united_given}
 use borrow.Author.Rules.{rules}
 use Rattle.reduce_operators.proofs.translations.unite.Statement.{statement}
 use Rattle.reduce_operators.proofs.translations.unite.Tie as tie
@@ -9,19 +9,19 @@ merge-requires : tie.Need-merge-requires
 merge-requires c κs = (source_sorted _ _ _ _ c.before.before.before.before.before.before.before.before.requires.0.1, source_sorted _ _ _ _ c.before.before.before.before.before.before.before.before.requires.1.1)
 
 returns : tie.Need-returns
-returns c = λ f g p q h. source-too-long _ _ _ _ _ _ f g p q _ _ _ _ c.enum_told.given.1 refl c.before.before.before.merge.ensures
+returns c = λ f g p q h. source_too_long _ _ _ _ _ _ f g p q _ _ _ _ c.enum_told.given.1 refl c.before.before.before.merge.ensures
 
 merge-requires-2 : tie.Need-merge-requires-2
 merge-requires-2 c κs = (target_sorted _ _ _ _ c.before.before.before.before.before.before.before.before.before.before.before.before.before.before.requires.0.1, target_sorted _ _ _ _ c.before.before.before.before.before.before.before.before.before.before.before.before.before.before.requires.1.1)
 
 returns-2 : tie.Need-returns-2
-returns-2 c = λ f g p q h. target-too-long _ _ _ _ _ _ f g p q _ _ _ _ c.enum-told2.given.1 refl c.before.before.before.merge2.ensures
+returns-2 c = λ f g p q h. target_too_long _ _ _ _ _ _ f g p q _ _ _ _ c.enum-told2.given.1 refl c.before.before.before.merge2.ensures
 
 merge-requires-3 : tie.Need-merge-requires-3
 merge-requires-3 c κs = (body_sorted _ _ _ _ c.before.before.before.before.before.before.before.before.before.before.before.before.before.before.before.before.before.before.before.before.requires.0.1, body_sorted _ _ _ _ c.before.before.before.before.before.before.before.before.before.before.before.before.before.before.before.before.before.before.before.before.requires.1.1)
 
 returns-3 : tie.Need-returns-3
-returns-3 c = λ f g p q h. body-too-long _ _ _ _ _ _ f g p q _ _ _ _ c.enum-told3.given.1 refl c.before.before.before.merge3.ensures
+returns-3 c = λ f g p q h. body_too_long _ _ _ _ _ _ f g p q _ _ _ _ c.enum-told3.given.1 refl c.before.before.before.merge3.ensures
 
 array-share-prefix-source : tie.Need-array-share-prefix-source
 array-share-prefix-source c = stored_room _ _ _ _ _ c.before.before.before.before.before.before.before.before.before.before.before.before.before.before.before.before.merge.ensures c.before.before.before.before.before.before.before.before.before.before.before.before.before.i.given.1 c.before.before.before.before.before.before.before.before.before.before.before.before.before.before.before.before.merge.auto.1.1.1.0

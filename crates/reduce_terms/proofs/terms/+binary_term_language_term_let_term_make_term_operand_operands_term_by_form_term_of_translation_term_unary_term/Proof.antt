@@ -5,7 +5,7 @@ use Rattle.format_pack.specs.Terms.{languages, translations}
 use Rattle.reduce_signs.specs.Inner.Sorts.{sort_of}
 use Rattle.reduce_signs.specs.Inner.Values.{slot_of}
 use Rattle.reduce_terms.proofs.Standing.{positive}
-use Rattle.reduce_terms.proofs.Giving.{begins_at, begins_as, asks_as, gives_as, asks_in, asks_level, unknown_sign, operand-room, operand-refused, operand-to, first_asks, first_refused, second-asks, second-refused, both_to, binary_asks, binary-values, binary-refused, binary-gives, unary_asks, unary-value, unary-refused, unary-gives, constant_asks, constant_gives, variable_asks, variable_gives, make_asks, make-values, make-next, make-refused, make-gives, let_asks, let_number, let-room, let-inner, let-refused, let-gives}
+use Rattle.reduce_terms.proofs.Giving.{begins_at, begins_as, asks_as, gives_as, asks_in, asks_level, unknown_sign, operand_room, operand_refused, operand_to, first_asks, first_refused, second_asks, second_refused, both_to, binary_asks, binary_values, binary_refused, binary_gives, unary_asks, unary_value, unary_refused, unary_gives, constant_asks, constant_gives, variable_asks, variable_gives, make_asks, make_values, make_next, make_refused, make_gives, let_asks, let_number, let_room, let_inner, let_refused, let_gives}
 use Prim.Native.Nat.{ℕ, ◌+◌, ◌*◌, ◌<◌}
 use borrow.Fn.Kinds.{In}
 use borrow.Fn.PlainCycle.{Measures, is, falls, and}
@@ -213,13 +213,13 @@ binary-term-operands-requires : (t : ℕ) → binary-term-lts.Need-operands-requ
 binary-term-operands-requires t c κs = (omega arith, (binary_asks c.before.before.before.before.before.before.before.args.pack.now c.before.before.before.before.before.before.before.args.at c.before.before.before.before.before.before.before.args.operator c.before.before.before.before.before.before.before.requires.1.2 c.before.before.before.before.before.before.before.requires.1.3 c.before.before.before.first-sort.ensures c.before.before.second-sort.ensures c.before.before.before.before.before.before.before.requires.1.0, c.before.before.before.before.before.before.before.requires.1.2, c.before.before.before.before.before.before.before.requires.1.1))
 
 binary-term-apply-requires : (t : ℕ) → binary-term-lts.Need-apply-requires (binary-term-calls t) (binary-term-at t) binary-term.Post
-binary-term-apply-requires t c κs = let k = binary-values c.before.before.before.before.before.before.before.before.before.before.before.before.before.before.before.before.before.args.pack.now c.before.before.before.before.before.before.before.before.before.before.before.before.before.before.before.before.before.args.at c.before.before.before.before.before.before.before.before.before.before.before.before.before.before.before.before.before.args.operator c.before.before.before.before.before.before.before.before.before.before.before.before.before.before.before.before.before.requires.1.2 c.before.before.before.before.before.before.before.before.before.before.before.before.before.before.before.before.before.requires.1.3 c.before.before.before.before.before.before.before.before.before.before.before.before.before.first-sort.ensures c.before.before.before.before.before.before.before.before.before.before.before.before.second-sort.ensures c.before.before.before.before.before.before.before.before.before.operands.ensures c.before.before.before.middle.given.1 c.before.before.before.before.before.before.before.before.before.before.before.before.before.before.before.before.before.requires.1.0 in (k.0, k.1, k.2, k.3, omega (arith, c.before.before.before.before.before.before.before.before.before.before.before.before.before.before.before.before.before.requires.1.1, c.before.before.before.before.before.before.before.before.before.operands.ensures.long))
+binary-term-apply-requires t c κs = let k = binary_values c.before.before.before.before.before.before.before.before.before.before.before.before.before.before.before.before.before.args.pack.now c.before.before.before.before.before.before.before.before.before.before.before.before.before.before.before.before.before.args.at c.before.before.before.before.before.before.before.before.before.before.before.before.before.before.before.before.before.args.operator c.before.before.before.before.before.before.before.before.before.before.before.before.before.before.before.before.before.requires.1.2 c.before.before.before.before.before.before.before.before.before.before.before.before.before.before.before.before.before.requires.1.3 c.before.before.before.before.before.before.before.before.before.before.before.before.before.first-sort.ensures c.before.before.before.before.before.before.before.before.before.before.before.before.second-sort.ensures c.before.before.before.before.before.before.before.before.before.operands.ensures c.before.before.before.middle.given.1 c.before.before.before.before.before.before.before.before.before.before.before.before.before.before.before.before.before.requires.1.0 in (k.0, k.1, k.2, k.3, omega (arith, c.before.before.before.before.before.before.before.before.before.before.before.before.before.before.before.before.before.requires.1.1, c.before.before.before.before.before.before.before.before.before.operands.ensures.long))
 
 binary-term-returns : (t : ℕ) → binary-term-lts.Need-returns (binary-term-calls t) (binary-term-at t) binary-term.Post
-binary-term-returns t c = binary-refused c.before.before.before.before.before.before.before.before.before.before.before.before.before.before.before.args.pack.now c.before.before.before.before.before.before.before.before.before.before.before.before.before.before.before.args.at c.before.before.before.before.before.before.before.before.before.before.before.before.before.before.before.args.operator c.before.before.before.before.before.before.before.before.before.before.before.before.before.before.before.requires.1.2 c.before.before.before.before.before.before.before.before.before.before.before.before.before.before.before.requires.1.3 c.before.before.before.before.before.before.before.before.before.before.before.first-sort.ensures c.before.before.before.before.before.before.before.before.before.before.second-sort.ensures c.before.before.before.before.before.before.before.operands.ensures c.before.reason.given.1
+binary-term-returns t c = binary_refused c.before.before.before.before.before.before.before.before.before.before.before.before.before.before.before.args.pack.now c.before.before.before.before.before.before.before.before.before.before.before.before.before.before.before.args.at c.before.before.before.before.before.before.before.before.before.before.before.before.before.before.before.args.operator c.before.before.before.before.before.before.before.before.before.before.before.before.before.before.before.requires.1.2 c.before.before.before.before.before.before.before.before.before.before.before.before.before.before.before.requires.1.3 c.before.before.before.before.before.before.before.before.before.before.before.first-sort.ensures c.before.before.before.before.before.before.before.before.before.before.second-sort.ensures c.before.before.before.before.before.before.before.operands.ensures c.before.reason.given.1
 
 binary-term-returns-2 : (t : ℕ) → binary-term-lts.Need-returns-2 (binary-term-calls t) (binary-term-at t) binary-term.Post
-binary-term-returns-2 t c = binary-gives c.before.before.before.before.before.before.before.before.before.before.before.before.before.before.before.before.before.before.before.before.before.args.pack.now c.before.before.before.before.before.before.before.before.before.before.before.before.before.before.before.before.before.before.before.before.before.args.at c.before.before.before.before.before.before.before.before.before.before.before.before.before.before.before.before.before.before.before.before.before.args.operator c.before.before.before.before.before.before.before.before.before.before.before.before.before.before.before.before.before.before.before.before.before.requires.1.2 c.before.before.before.before.before.before.before.before.before.before.before.before.before.before.before.before.before.before.before.before.before.requires.1.3 c.before.before.before.before.before.before.before.before.before.before.before.before.before.before.before.before.before.first-sort.ensures c.before.before.before.before.before.before.before.before.before.before.before.before.before.before.before.before.second-sort.ensures c.before.before.before.before.before.before.before.before.before.before.before.before.before.operands.ensures c.before.before.before.before.before.before.before.middle.given.1 c.before.before.before.before.before.before.before.before.before.before.before.before.before.before.before.before.before.before.before.before.before.requires.1.0 c.before.before.before.apply.ensures c.finish.ensures
+binary-term-returns-2 t c = binary_gives c.before.before.before.before.before.before.before.before.before.before.before.before.before.before.before.before.before.before.before.before.before.args.pack.now c.before.before.before.before.before.before.before.before.before.before.before.before.before.before.before.before.before.before.before.before.before.args.at c.before.before.before.before.before.before.before.before.before.before.before.before.before.before.before.before.before.before.before.before.before.args.operator c.before.before.before.before.before.before.before.before.before.before.before.before.before.before.before.before.before.before.before.before.before.requires.1.2 c.before.before.before.before.before.before.before.before.before.before.before.before.before.before.before.before.before.before.before.before.before.requires.1.3 c.before.before.before.before.before.before.before.before.before.before.before.before.before.before.before.before.before.first-sort.ensures c.before.before.before.before.before.before.before.before.before.before.before.before.before.before.before.before.second-sort.ensures c.before.before.before.before.before.before.before.before.before.before.before.before.before.operands.ensures c.before.before.before.before.before.before.before.middle.given.1 c.before.before.before.before.before.before.before.before.before.before.before.before.before.before.before.before.before.before.before.before.before.requires.1.0 c.before.before.before.apply.ensures c.finish.ensures
 
 language-term-returns : (t : ℕ) → language-term-lts.Need-returns (language-term-calls t) (language-term-at t) language-term.Post
 language-term-returns t c = asks_level c.before.before.before.before.requires.1.0 c.if1.true
@@ -243,49 +243,49 @@ let-term-slot-requires : (t : ℕ) → let-term-lts.Need-slot-of-requires (let-t
 let-term-slot-requires t c κs = omega (arith, (let_number c.before.before.before.before.before.before.before.before.before.before.before.before.before.before.before.args.pack.now c.before.before.before.before.before.before.before.before.before.before.before.before.before.before.before.args.at (sort_of c.before.before.before.before.before.before.before.before.before.before.before.before.before.before.before.args.bound) (sort_of c.before.before.before.before.before.before.before.before.before.before.before.before.before.before.before.args.sort) c.before.before.before.before.before.before.before.before.before.before.before.before.before.before.before.requires.1.2 c.before.before.before.before.before.before.before.before.before.before.before.before.before.before.before.requires.1.3 c.before.before.before.before.before.before.before.before.before.before.before.before.before.before.before.requires.1.0).1, (c.to-usize.ensures.0 ∙ c.before.byte_at.ensures))
 
 let-term-add-set-slot : (t : ℕ) → let-term-lts.Need-overflow-add-set-slot (let-term-calls t) (let-term-at t) let-term.Post
-let-term-add-set-slot t c = omega (arith, let-room c.before.before.before.before.before.before.before.before.before.before.before.before.before.before.before.before.args.pack.now c.before.before.before.before.before.before.before.before.before.before.before.before.before.before.before.before.args.at (sort_of c.before.before.before.before.before.before.before.before.before.before.before.before.before.before.before.before.args.bound) (sort_of c.before.before.before.before.before.before.before.before.before.before.before.before.before.before.before.before.args.sort) c.before.before.before.before.before.before.before.before.before.before.before.before.before.before.before.before.requires.1.2 c.before.before.before.before.before.before.before.before.before.before.before.before.before.before.before.before.requires.1.3 c.before.before.before.before.before.before.before.before.before.before.operand.ensures c.before.before.before.before.last.given.1 c.before.before.before.before.before.before.before.before.before.before.before.before.before.before.before.before.requires.1.0, c.before.before.before.before.before.before.before.before.before.before.operand.ensures.kept.long, c.before.before.before.before.before.before.before.before.before.before.before.before.before.before.before.before.well-formed.1.1.1.1.1.1.0.1)
+let-term-add-set-slot t c = omega (arith, let_room c.before.before.before.before.before.before.before.before.before.before.before.before.before.before.before.before.args.pack.now c.before.before.before.before.before.before.before.before.before.before.before.before.before.before.before.before.args.at (sort_of c.before.before.before.before.before.before.before.before.before.before.before.before.before.before.before.before.args.bound) (sort_of c.before.before.before.before.before.before.before.before.before.before.before.before.before.before.before.before.args.sort) c.before.before.before.before.before.before.before.before.before.before.before.before.before.before.before.before.requires.1.2 c.before.before.before.before.before.before.before.before.before.before.before.before.before.before.before.before.requires.1.3 c.before.before.before.before.before.before.before.before.before.before.operand.ensures c.before.before.before.before.last.given.1 c.before.before.before.before.before.before.before.before.before.before.before.before.before.before.before.before.requires.1.0, c.before.before.before.before.before.before.before.before.before.before.operand.ensures.kept.long, c.before.before.before.before.before.before.before.before.before.before.before.before.before.before.before.before.well-formed.1.1.1.1.1.1.0.1)
 
 let-term-set-slot-requires : (t : ℕ) → let-term-lts.Need-set-slot-requires (let-term-calls t) (let-term-at t) let-term.Post
 let-term-set-slot-requires t c κs = (c.slot-of.ensures.1, c.before.before.before.before.before.before.before.before.before.before.before.before.before.before.before.before.requires.1.0.context.held.sized)
 
 let-term-term-of-requires : (t : ℕ) → let-term-lts.Need-term-of-requires (let-term-calls t) (let-term-at t) let-term.Post
-let-term-term-of-requires t c κs = (omega arith, (let-inner c.before.before.before.before.before.before.before.before.before.before.before.before.before.before.before.before.before.before.before.args.pack.now c.before.before.before.before.before.before.before.before.before.before.before.before.before.before.before.before.before.before.before.args.at (sort_of c.before.before.before.before.before.before.before.before.before.before.before.before.before.before.before.before.before.before.before.args.bound) (sort_of c.before.before.before.before.before.before.before.before.before.before.before.before.before.before.before.before.before.before.before.args.sort) c.before.before.before.before.before.before.before.before.before.before.before.before.before.before.before.before.before.before.before.requires.1.2 c.before.before.before.before.before.before.before.before.before.before.before.before.before.before.before.before.before.before.before.requires.1.3 c.before.before.before.before.before.before.before.before.before.before.before.before.before.operand.ensures c.before.before.before.before.before.before.before.last.given.1 (c.before.before.before.slot-of.ensures.0 ∙ ap (slot_of (sort_of c.before.before.before.before.before.before.before.before.before.before.before.before.before.before.before.before.before.before.before.args.bound)) (c.before.before.before.before.to-usize.ensures.0 ∙ c.before.before.before.before.before.byte_at.ensures)) c.before.before.set-slot.ensures c.before.before.before.before.before.before.before.before.before.before.before.before.before.before.before.before.before.before.before.requires.1.0, omega (arith, c.before.before.before.before.before.before.before.before.before.before.before.before.before.before.before.before.before.before.before.requires.1.1, c.before.before.before.before.before.before.before.before.before.before.before.before.before.operand.ensures.long)))
+let-term-term-of-requires t c κs = (omega arith, (let_inner c.before.before.before.before.before.before.before.before.before.before.before.before.before.before.before.before.before.before.before.args.pack.now c.before.before.before.before.before.before.before.before.before.before.before.before.before.before.before.before.before.before.before.args.at (sort_of c.before.before.before.before.before.before.before.before.before.before.before.before.before.before.before.before.before.before.before.args.bound) (sort_of c.before.before.before.before.before.before.before.before.before.before.before.before.before.before.before.before.before.before.before.args.sort) c.before.before.before.before.before.before.before.before.before.before.before.before.before.before.before.before.before.before.before.requires.1.2 c.before.before.before.before.before.before.before.before.before.before.before.before.before.before.before.before.before.before.before.requires.1.3 c.before.before.before.before.before.before.before.before.before.before.before.before.before.operand.ensures c.before.before.before.before.before.before.before.last.given.1 (c.before.before.before.slot-of.ensures.0 ∙ ap (slot_of (sort_of c.before.before.before.before.before.before.before.before.before.before.before.before.before.before.before.before.before.before.before.args.bound)) (c.before.before.before.before.to-usize.ensures.0 ∙ c.before.before.before.before.before.byte_at.ensures)) c.before.before.set-slot.ensures c.before.before.before.before.before.before.before.before.before.before.before.before.before.before.before.before.before.before.before.requires.1.0, omega (arith, c.before.before.before.before.before.before.before.before.before.before.before.before.before.before.before.before.before.before.before.requires.1.1, c.before.before.before.before.before.before.before.before.before.before.before.before.before.operand.ensures.long)))
 
 let-term-returns : (t : ℕ) → let-term-lts.Need-returns (let-term-calls t) (let-term-at t) let-term.Post
-let-term-returns t c = let-refused c.before.before.before.before.before.before.before.before.before.before.before.before.before.args.pack.now c.before.before.before.before.before.before.before.before.before.before.before.before.before.args.at (sort_of c.before.before.before.before.before.before.before.before.before.before.before.before.before.args.bound) (sort_of c.before.before.before.before.before.before.before.before.before.before.before.before.before.args.sort) c.before.before.before.before.before.before.before.before.before.before.before.before.before.requires.1.2 c.before.before.before.before.before.before.before.before.before.before.before.before.before.requires.1.3 c.before.before.before.before.before.before.before.operand.ensures c.before.reason.given.1
+let-term-returns t c = let_refused c.before.before.before.before.before.before.before.before.before.before.before.before.before.args.pack.now c.before.before.before.before.before.before.before.before.before.before.before.before.before.args.at (sort_of c.before.before.before.before.before.before.before.before.before.before.before.before.before.args.bound) (sort_of c.before.before.before.before.before.before.before.before.before.before.before.before.before.args.sort) c.before.before.before.before.before.before.before.before.before.before.before.before.before.requires.1.2 c.before.before.before.before.before.before.before.before.before.before.before.before.before.requires.1.3 c.before.before.before.before.before.before.before.operand.ensures c.before.reason.given.1
 
 let-term-returns-2 : (t : ℕ) → let-term-lts.Need-returns-2 (let-term-calls t) (let-term-at t) let-term.Post
-let-term-returns-2 t c = let-gives c.before.before.before.before.before.before.before.before.before.before.before.before.before.before.before.before.before.before.before.before.before.before.before.before.args.pack.now c.before.before.before.before.before.before.before.before.before.before.before.before.before.before.before.before.before.before.before.before.before.before.before.before.args.at (sort_of c.before.before.before.before.before.before.before.before.before.before.before.before.before.before.before.before.before.before.before.before.before.before.before.before.args.bound) (sort_of c.before.before.before.before.before.before.before.before.before.before.before.before.before.before.before.before.before.before.before.before.before.before.before.before.args.sort) c.before.before.before.before.before.before.before.before.before.before.before.before.before.before.before.before.before.before.before.before.before.before.before.before.requires.1.2 c.before.before.before.before.before.before.before.before.before.before.before.before.before.before.before.before.before.before.before.before.before.before.before.before.requires.1.3 c.before.before.before.before.before.before.before.before.before.before.before.before.before.before.before.before.before.before.operand.ensures c.before.before.before.before.before.before.before.before.before.before.before.before.last.given.1 (c.before.before.before.before.before.before.before.before.slot-of.ensures.0 ∙ ap (slot_of (sort_of c.before.before.before.before.before.before.before.before.before.before.before.before.before.before.before.before.before.before.before.before.before.before.before.before.args.bound)) (c.before.before.before.before.before.before.before.before.before.to-usize.ensures.0 ∙ c.before.before.before.before.before.before.before.before.before.before.byte_at.ensures)) c.before.before.before.before.before.before.before.set-slot.ensures c.before.before.before.before.before.before.before.before.before.before.before.before.before.before.before.before.before.before.before.before.before.before.before.before.requires.1.0 c.before.before.before.before.term_of.ensures
+let-term-returns-2 t c = let_gives c.before.before.before.before.before.before.before.before.before.before.before.before.before.before.before.before.before.before.before.before.before.before.before.before.args.pack.now c.before.before.before.before.before.before.before.before.before.before.before.before.before.before.before.before.before.before.before.before.before.before.before.before.args.at (sort_of c.before.before.before.before.before.before.before.before.before.before.before.before.before.before.before.before.before.before.before.before.before.before.before.before.args.bound) (sort_of c.before.before.before.before.before.before.before.before.before.before.before.before.before.before.before.before.before.before.before.before.before.before.before.before.args.sort) c.before.before.before.before.before.before.before.before.before.before.before.before.before.before.before.before.before.before.before.before.before.before.before.before.requires.1.2 c.before.before.before.before.before.before.before.before.before.before.before.before.before.before.before.before.before.before.before.before.before.before.before.before.requires.1.3 c.before.before.before.before.before.before.before.before.before.before.before.before.before.before.before.before.before.before.operand.ensures c.before.before.before.before.before.before.before.before.before.before.before.before.last.given.1 (c.before.before.before.before.before.before.before.before.slot-of.ensures.0 ∙ ap (slot_of (sort_of c.before.before.before.before.before.before.before.before.before.before.before.before.before.before.before.before.before.before.before.before.before.before.before.before.args.bound)) (c.before.before.before.before.before.before.before.before.before.to-usize.ensures.0 ∙ c.before.before.before.before.before.before.before.before.before.before.byte_at.ensures)) c.before.before.before.before.before.before.before.set-slot.ensures c.before.before.before.before.before.before.before.before.before.before.before.before.before.before.before.before.before.before.before.before.before.before.before.before.requires.1.0 c.before.before.before.before.term_of.ensures
 
 make-term-operands-requires : (t : ℕ) → make-term-lts.Need-operands-requires (make-term-calls t) (make-term-at t) make-term.Post
 make-term-operands-requires t c κs = (omega arith, (make_asks c.before.before.before.before.before.args.pack.now c.before.before.before.before.before.args.at c.before.before.before.before.before.requires.1.2 c.before.before.before.before.before.requires.1.3 c.before.before.before.before.before.requires.1.0, c.before.before.before.before.before.requires.1.2, c.before.before.before.before.before.requires.1.1))
 
 make-term-apply-requires : (t : ℕ) → make-term-lts.Need-apply-requires (make-term-calls t) (make-term-at t) make-term.Post
-make-term-apply-requires t c κs = let k = make-values c.before.before.before.before.before.before.before.before.before.before.before.before.before.before.before.before.before.args.pack.now c.before.before.before.before.before.before.before.before.before.before.before.before.before.before.before.before.before.args.at c.before.before.before.before.before.before.before.before.before.before.before.before.before.before.before.before.before.requires.1.2 c.before.before.before.before.before.before.before.before.before.before.before.before.before.before.before.before.before.requires.1.3 c.before.before.before.before.before.before.before.before.before.before.before.operands.ensures c.before.before.before.before.before.middle.given.1 (c.before.before.to-usize.ensures.0 ∙ c.before.before.before.byte_at.ensures) c.before.before.before.before.before.before.before.before.before.before.before.before.before.before.before.before.before.requires.1.0 in (k.0, k.1, k.2, k.3, omega (arith, c.before.before.before.before.before.before.before.before.before.before.before.before.before.before.before.before.before.requires.1.1, c.before.before.before.before.before.before.before.before.before.before.before.operands.ensures.long))
+make-term-apply-requires t c κs = let k = make_values c.before.before.before.before.before.before.before.before.before.before.before.before.before.before.before.before.before.args.pack.now c.before.before.before.before.before.before.before.before.before.before.before.before.before.before.before.before.before.args.at c.before.before.before.before.before.before.before.before.before.before.before.before.before.before.before.before.before.requires.1.2 c.before.before.before.before.before.before.before.before.before.before.before.before.before.before.before.before.before.requires.1.3 c.before.before.before.before.before.before.before.before.before.before.before.operands.ensures c.before.before.before.before.before.middle.given.1 (c.before.before.to-usize.ensures.0 ∙ c.before.before.before.byte_at.ensures) c.before.before.before.before.before.before.before.before.before.before.before.before.before.before.before.before.before.requires.1.0 in (k.0, k.1, k.2, k.3, omega (arith, c.before.before.before.before.before.before.before.before.before.before.before.before.before.before.before.before.before.requires.1.1, c.before.before.before.before.before.before.before.before.before.before.before.operands.ensures.long))
 
 make-term-add-finish : (t : ℕ) → make-term-lts.Need-overflow-add-finish (make-term-calls t) (make-term-at t) make-term.Post
-make-term-add-finish t c = omega (arith, make-next c.before.before.before.before.before.before.before.before.before.before.before.before.before.before.before.before.before.before.before.before.args.pack.now c.before.before.before.before.before.before.before.before.before.before.before.before.before.before.before.before.before.before.before.before.args.at c.before.before.before.before.before.before.before.before.before.before.before.before.before.before.before.before.before.before.before.before.requires.1.2 c.before.before.before.before.before.before.before.before.before.before.before.before.before.before.before.before.before.before.before.before.requires.1.3 c.before.before.before.before.before.before.before.before.before.before.before.before.before.before.operands.ensures c.before.before.before.before.before.before.before.before.middle.given.1 c.before.before.before.before.before.before.before.before.before.before.before.before.before.before.before.before.before.before.before.before.requires.1.0)
+make-term-add-finish t c = omega (arith, make_next c.before.before.before.before.before.before.before.before.before.before.before.before.before.before.before.before.before.before.before.before.args.pack.now c.before.before.before.before.before.before.before.before.before.before.before.before.before.before.before.before.before.before.before.before.args.at c.before.before.before.before.before.before.before.before.before.before.before.before.before.before.before.before.before.before.before.before.requires.1.2 c.before.before.before.before.before.before.before.before.before.before.before.before.before.before.before.before.before.before.before.before.requires.1.3 c.before.before.before.before.before.before.before.before.before.before.before.before.before.before.operands.ensures c.before.before.before.before.before.before.before.before.middle.given.1 c.before.before.before.before.before.before.before.before.before.before.before.before.before.before.before.before.before.before.before.before.requires.1.0)
 
 make-term-returns : (t : ℕ) → make-term-lts.Need-returns (make-term-calls t) (make-term-at t) make-term.Post
-make-term-returns t c = make-refused c.before.before.before.before.before.before.before.before.before.before.before.before.before.args.pack.now c.before.before.before.before.before.before.before.before.before.before.before.before.before.args.at c.before.before.before.before.before.before.before.before.before.before.before.before.before.requires.1.2 c.before.before.before.before.before.before.before.before.before.before.before.before.before.requires.1.3 c.before.before.before.before.before.before.before.operands.ensures c.before.reason.given.1
+make-term-returns t c = make_refused c.before.before.before.before.before.before.before.before.before.before.before.before.before.args.pack.now c.before.before.before.before.before.before.before.before.before.before.before.before.before.args.at c.before.before.before.before.before.before.before.before.before.before.before.before.before.requires.1.2 c.before.before.before.before.before.before.before.before.before.before.before.before.before.requires.1.3 c.before.before.before.before.before.before.before.operands.ensures c.before.reason.given.1
 
 make-term-returns-2 : (t : ℕ) → make-term-lts.Need-returns-2 (make-term-calls t) (make-term-at t) make-term.Post
-make-term-returns-2 t c = make-gives c.before.before.before.before.before.before.before.before.before.before.before.before.before.before.before.before.before.before.before.before.before.args.pack.now c.before.before.before.before.before.before.before.before.before.before.before.before.before.before.before.before.before.before.before.before.before.args.at c.before.before.before.before.before.before.before.before.before.before.before.before.before.before.before.before.before.before.before.before.before.requires.1.2 c.before.before.before.before.before.before.before.before.before.before.before.before.before.before.before.before.before.before.before.before.before.requires.1.3 c.before.before.before.before.before.before.before.before.before.before.before.before.before.before.before.operands.ensures c.before.before.before.before.before.before.before.before.before.middle.given.1 (c.before.before.before.before.before.before.to-usize.ensures.0 ∙ c.before.before.before.before.before.before.before.byte_at.ensures) c.before.before.before.before.before.before.before.before.before.before.before.before.before.before.before.before.before.before.before.before.before.requires.1.0 c.before.before.before.apply.ensures c.finish.ensures
+make-term-returns-2 t c = make_gives c.before.before.before.before.before.before.before.before.before.before.before.before.before.before.before.before.before.before.before.before.before.args.pack.now c.before.before.before.before.before.before.before.before.before.before.before.before.before.before.before.before.before.before.before.before.before.args.at c.before.before.before.before.before.before.before.before.before.before.before.before.before.before.before.before.before.before.before.before.before.requires.1.2 c.before.before.before.before.before.before.before.before.before.before.before.before.before.before.before.before.before.before.before.before.before.requires.1.3 c.before.before.before.before.before.before.before.before.before.before.before.before.before.before.before.operands.ensures c.before.before.before.before.before.before.before.before.before.middle.given.1 (c.before.before.before.before.before.before.to-usize.ensures.0 ∙ c.before.before.before.before.before.before.before.byte_at.ensures) c.before.before.before.before.before.before.before.before.before.before.before.before.before.before.before.before.before.before.before.before.before.requires.1.0 c.before.before.before.apply.ensures c.finish.ensures
 
 operand-term-of-requires : (t : ℕ) → operand-lts.Need-term-of-requires (operand-calls t) (operand_at t) operand.Post
 operand-term-of-requires t c κs = (omega arith, (c.before.before.before.before.before.requires.1.0, c.before.before.before.before.before.requires.1.1))
 
 operand-save-requires : (t : ℕ) → operand-lts.Need-save-requires (operand-calls t) (operand_at t) operand.Post
-operand-save-requires t c κs = operand-room c.before.before.before.before.before.before.before.before.before.term_of.ensures c.before.before.before.n.given.1 c.before.before.before.before.before.before.before.before.before.before.before.before.before.before.before.requires.1.0
+operand-save-requires t c κs = operand_room c.before.before.before.before.before.before.before.before.before.term_of.ensures c.before.before.before.n.given.1 c.before.before.before.before.before.before.before.before.before.before.before.before.before.before.before.requires.1.0
 
 operand-add-t23 : (t : ℕ) → operand-lts.Need-overflow-add-t23 (operand-calls t) (operand_at t) operand.Post
-operand-add-t23 t c = omega (arith, (operand-room c.before.before.before.before.before.before.before.before.before.before.before.before.term_of.ensures c.before.before.before.before.before.before.n.given.1 c.before.before.before.before.before.before.before.before.before.before.before.before.before.before.before.before.before.before.requires.1.0).1, c.before.before.before.before.before.before.before.before.before.before.before.before.term_of.ensures.kept.long, c.before.before.before.before.before.before.before.before.before.before.before.before.before.before.before.before.before.before.well-formed.1.1.1.1.1.0.1)
+operand-add-t23 t c = omega (arith, (operand_room c.before.before.before.before.before.before.before.before.before.before.before.before.term_of.ensures c.before.before.before.before.before.before.n.given.1 c.before.before.before.before.before.before.before.before.before.before.before.before.before.before.before.before.before.before.requires.1.0).1, c.before.before.before.before.before.before.before.before.before.before.before.before.term_of.ensures.kept.long, c.before.before.before.before.before.before.before.before.before.before.before.before.before.before.before.before.before.before.well-formed.1.1.1.1.1.0.1)
 
 operand-returns : (t : ℕ) → operand-lts.Need-returns (operand-calls t) (operand_at t) operand.Post
-operand-returns t c = operand-refused c.before.before.before.before.before.before.before.term_of.ensures c.before.reason.given.1
+operand-returns t c = operand_refused c.before.before.before.before.before.before.before.term_of.ensures c.before.reason.given.1
 
 operand-returns-2 : (t : ℕ) → operand-lts.Need-returns-2 (operand-calls t) (operand_at t) operand.Post
-operand-returns-2 t c = operand-to c.before.before.before.before.before.before.before.before.before.before.before.before.term_of.ensures c.before.before.before.before.before.before.n.given.1 (operand-room c.before.before.before.before.before.before.before.before.before.before.before.before.term_of.ensures c.before.before.before.before.before.before.n.given.1 c.before.before.before.before.before.before.before.before.before.before.before.before.before.before.before.before.before.before.requires.1.0).1 c.before.before.save.ensures
+operand-returns-2 t c = operand_to c.before.before.before.before.before.before.before.before.before.before.before.before.term_of.ensures c.before.before.before.before.before.before.n.given.1 (operand_room c.before.before.before.before.before.before.before.before.before.before.before.before.term_of.ensures c.before.before.before.before.before.before.n.given.1 c.before.before.before.before.before.before.before.before.before.before.before.before.before.before.before.before.before.before.requires.1.0).1 c.before.before.save.ensures
 
 operands-add-operand :
     (t : ℕ) →
@@ -296,7 +296,7 @@ operands-operand-requires : (t : ℕ) → operands-lts.Need-operand-requires (op
 operands-operand-requires t c κs = (omega arith, (first_asks c.before.before.before.before.before.args.at (sort_of c.before.before.before.before.before.args.second) c.before.before.before.before.before.requires.1.1 c.before.before.before.before.before.requires.1.0, c.before.before.before.before.before.requires.1.2))
 
 operands-operand-requires-2 : (t : ℕ) → operands-lts.Need-operand-requires-2 (operands-calls t) (operands-at t) operands.Post
-operands-operand-requires-2 t c κs = (omega arith, (second-asks c.before.before.before.before.before.before.before.before.before.before.before.before.before.before.before.args.at (sort_of c.before.before.before.before.before.before.before.before.before.before.before.before.before.before.before.args.second) c.before.before.before.before.before.before.before.before.before.before.before.before.before.before.before.requires.1.1 c.before.before.before.before.before.before.before.before.before.operand.ensures c.before.before.before.middle.given.1 c.before.before.before.before.before.before.before.before.before.before.before.before.before.before.before.requires.1.0, omega (arith, c.before.before.before.before.before.before.before.before.before.before.before.before.before.before.before.requires.1.2, c.before.before.before.before.before.before.before.before.before.operand.ensures.long)))
+operands-operand-requires-2 t c κs = (omega arith, (second_asks c.before.before.before.before.before.before.before.before.before.before.before.before.before.before.before.args.at (sort_of c.before.before.before.before.before.before.before.before.before.before.before.before.before.before.before.args.second) c.before.before.before.before.before.before.before.before.before.before.before.before.before.before.before.requires.1.1 c.before.before.before.before.before.before.before.before.before.operand.ensures c.before.before.before.middle.given.1 c.before.before.before.before.before.before.before.before.before.before.before.before.before.before.before.requires.1.0, omega (arith, c.before.before.before.before.before.before.before.before.before.before.before.before.before.before.before.requires.1.2, c.before.before.before.before.before.before.before.before.before.operand.ensures.long)))
 
 operands-returns :
     (t : ℕ) →
@@ -306,7 +306,7 @@ operands-returns t c = first_refused c.before.before.before.before.before.before
 operands-returns-2 :
     (t : ℕ) →
     operands-lts.Need-returns-2 (operands-calls t) (operands-at t) operands.Post
-operands-returns-2 t c = second-refused c.before.before.before.before.before.before.before.before.before.before.before.before.before.before.before.before.before.before.before.before.before.before.before.args.at (sort_of c.before.before.before.before.before.before.before.before.before.before.before.before.before.before.before.before.before.before.before.before.before.before.before.args.second) c.before.before.before.before.before.before.before.before.before.before.before.before.before.before.before.before.before.before.before.before.before.before.before.requires.1.1 c.before.before.before.before.before.before.before.before.before.before.before.before.before.before.before.before.before.operand.ensures c.before.before.before.before.before.before.before.before.before.before.before.middle.given.1 c.before.before.before.before.before.before.before.before.before.before.before.before.before.before.before.before.before.before.before.before.before.before.before.requires.1.0 c.before.before.before.before.before.before.before.operand2.ensures c.before.reason2.given.1
+operands-returns-2 t c = second_refused c.before.before.before.before.before.before.before.before.before.before.before.before.before.before.before.before.before.before.before.before.before.before.before.args.at (sort_of c.before.before.before.before.before.before.before.before.before.before.before.before.before.before.before.before.before.before.before.before.before.before.before.args.second) c.before.before.before.before.before.before.before.before.before.before.before.before.before.before.before.before.before.before.before.before.before.before.before.requires.1.1 c.before.before.before.before.before.before.before.before.before.before.before.before.before.before.before.before.before.operand.ensures c.before.before.before.before.before.before.before.before.before.before.before.middle.given.1 c.before.before.before.before.before.before.before.before.before.before.before.before.before.before.before.before.before.before.before.before.before.before.before.requires.1.0 c.before.before.before.before.before.before.before.operand2.ensures c.before.reason2.given.1
 
 operands-returns-3 :
     (t : ℕ) →
@@ -380,13 +380,13 @@ unary-term-operand-requires : (t : ℕ) → unary-term-lts.Need-operand-requires
 unary-term-operand-requires t c κs = (omega arith, (unary_asks c.before.before.before.before.before.before.args.pack.now c.before.before.before.before.before.before.args.at c.before.before.before.before.before.before.args.operator c.before.before.before.before.before.before.requires.1.2 c.before.before.before.before.before.before.requires.1.3 c.before.before.operand-sort.ensures c.before.before.before.before.before.before.requires.1.0, c.before.before.before.before.before.before.requires.1.1))
 
 unary-term-apply-requires : (t : ℕ) → unary-term-lts.Need-apply-requires (unary-term-calls t) (unary-term-at t) unary-term.Post
-unary-term-apply-requires t c κs = let k = unary-value c.before.before.before.before.before.before.before.before.before.before.before.before.before.before.before.before.args.pack.now c.before.before.before.before.before.before.before.before.before.before.before.before.before.before.before.before.args.at c.before.before.before.before.before.before.before.before.before.before.before.before.before.before.before.before.args.operator c.before.before.before.before.before.before.before.before.before.before.before.before.before.before.before.before.requires.1.2 c.before.before.before.before.before.before.before.before.before.before.before.before.before.before.before.before.requires.1.3 c.before.before.before.before.before.before.before.before.before.before.before.before.operand-sort.ensures c.before.before.before.before.before.before.before.before.before.operand.ensures c.before.before.before.last.given.1 c.before.before.before.before.before.before.before.before.before.before.before.before.before.before.before.before.requires.1.0 in (k.0, k.1, k.2, k.3, omega (arith, c.before.before.before.before.before.before.before.before.before.before.before.before.before.before.before.before.requires.1.1, c.before.before.before.before.before.before.before.before.before.operand.ensures.long))
+unary-term-apply-requires t c κs = let k = unary_value c.before.before.before.before.before.before.before.before.before.before.before.before.before.before.before.before.args.pack.now c.before.before.before.before.before.before.before.before.before.before.before.before.before.before.before.before.args.at c.before.before.before.before.before.before.before.before.before.before.before.before.before.before.before.before.args.operator c.before.before.before.before.before.before.before.before.before.before.before.before.before.before.before.before.requires.1.2 c.before.before.before.before.before.before.before.before.before.before.before.before.before.before.before.before.requires.1.3 c.before.before.before.before.before.before.before.before.before.before.before.before.operand-sort.ensures c.before.before.before.before.before.before.before.before.before.operand.ensures c.before.before.before.last.given.1 c.before.before.before.before.before.before.before.before.before.before.before.before.before.before.before.before.requires.1.0 in (k.0, k.1, k.2, k.3, omega (arith, c.before.before.before.before.before.before.before.before.before.before.before.before.before.before.before.before.requires.1.1, c.before.before.before.before.before.before.before.before.before.operand.ensures.long))
 
 unary-term-returns : (t : ℕ) → unary-term-lts.Need-returns (unary-term-calls t) (unary-term-at t) unary-term.Post
-unary-term-returns t c = unary-refused c.before.before.before.before.before.before.before.before.before.before.before.before.before.before.args.pack.now c.before.before.before.before.before.before.before.before.before.before.before.before.before.before.args.at c.before.before.before.before.before.before.before.before.before.before.before.before.before.before.args.operator c.before.before.before.before.before.before.before.before.before.before.before.before.before.before.requires.1.2 c.before.before.before.before.before.before.before.before.before.before.before.before.before.before.requires.1.3 c.before.before.before.before.before.before.before.before.before.before.operand-sort.ensures c.before.before.before.before.before.before.before.operand.ensures c.before.reason.given.1
+unary-term-returns t c = unary_refused c.before.before.before.before.before.before.before.before.before.before.before.before.before.before.args.pack.now c.before.before.before.before.before.before.before.before.before.before.before.before.before.before.args.at c.before.before.before.before.before.before.before.before.before.before.before.before.before.before.args.operator c.before.before.before.before.before.before.before.before.before.before.before.before.before.before.requires.1.2 c.before.before.before.before.before.before.before.before.before.before.before.before.before.before.requires.1.3 c.before.before.before.before.before.before.before.before.before.before.operand-sort.ensures c.before.before.before.before.before.before.before.operand.ensures c.before.reason.given.1
 
 unary-term-returns-2 : (t : ℕ) → unary-term-lts.Need-returns-2 (unary-term-calls t) (unary-term-at t) unary-term.Post
-unary-term-returns-2 t c = unary-gives c.before.before.before.before.before.before.before.before.before.before.before.before.before.before.before.before.before.before.before.before.args.pack.now c.before.before.before.before.before.before.before.before.before.before.before.before.before.before.before.before.before.before.before.before.args.at c.before.before.before.before.before.before.before.before.before.before.before.before.before.before.before.before.before.before.before.before.args.operator c.before.before.before.before.before.before.before.before.before.before.before.before.before.before.before.before.before.before.before.before.requires.1.2 c.before.before.before.before.before.before.before.before.before.before.before.before.before.before.before.before.before.before.before.before.requires.1.3 c.before.before.before.before.before.before.before.before.before.before.before.before.before.before.before.before.operand-sort.ensures c.before.before.before.before.before.before.before.before.before.before.before.before.before.operand.ensures c.before.before.before.before.before.before.before.last.given.1 c.before.before.before.before.before.before.before.before.before.before.before.before.before.before.before.before.before.before.before.before.requires.1.0 c.before.before.before.apply.ensures c.finish.ensures
+unary-term-returns-2 t c = unary_gives c.before.before.before.before.before.before.before.before.before.before.before.before.before.before.before.before.before.before.before.before.args.pack.now c.before.before.before.before.before.before.before.before.before.before.before.before.before.before.before.before.before.before.before.before.args.at c.before.before.before.before.before.before.before.before.before.before.before.before.before.before.before.before.before.before.before.before.args.operator c.before.before.before.before.before.before.before.before.before.before.before.before.before.before.before.before.before.before.before.before.requires.1.2 c.before.before.before.before.before.before.before.before.before.before.before.before.before.before.before.before.before.before.before.before.requires.1.3 c.before.before.before.before.before.before.before.before.before.before.before.before.before.before.before.before.operand-sort.ensures c.before.before.before.before.before.before.before.before.before.before.before.before.before.operand.ensures c.before.before.before.before.before.before.before.last.given.1 c.before.before.before.before.before.before.before.before.before.before.before.before.before.before.before.before.before.before.before.before.requires.1.0 c.before.before.before.apply.ensures c.finish.ensures
 
 pub +binary-term-language-term-let-term-make-term-operand-operands-term-by-form-term-of-translation-term-unary-term-spec :
     {M : Type 1} → statement M

@@ -11,7 +11,7 @@ use Rattle.tree_reader.specs.Typing.{Uses}
 use Rattle.format_translation.specs.Translation.{Translation}
 use Rattle.run_emit.specs.Inner.Runs.{used_number, NodeAsks}
 use Rattle.run_table.proofs.Standing.{wrote_long}
-use Rattle.run_emit.proofs.Rows.{RowHeld, asked, going_start, going_end, going_full, next-below, next-two, next-narrow, token-three, argument_some, argument-asks, argument-turn, named_some, named-room, named-asks, inner-turn, token-room, token-turn, NodeGoing, node_some, node_going, root_narrow, root_room, root_going, going_as, node-wrote, last-asks, node_end, find_asks, placed, placed_gives, found_place, found_below, found-asks, found_gives, leaf_room, leaf_low, leaf-gives}
+use Rattle.run_emit.proofs.Rows.{RowHeld, asked, going_start, going_end, going_full, next_below, next_two, next_narrow, token_three, argument_some, argument_asks, argument_turn, named_some, named_room, named_asks, inner_turn, token_room, token_turn, NodeGoing, node_some, node_going, root_narrow, root_room, root_going, going_as, node_wrote, last_asks, node_end, find_asks, placed, placed_gives, found_place, found_below, found_asks, found_gives, leaf_room, leaf_low, leaf_gives}
 use Rattle.run_emit.proofs.run.run_argument.Reads as run-argument
 use Rattle.run_emit.proofs.run.run_argument.Kinds as run-argument-kinds
 use Rattle.run_emit.proofs.run.+run_argument_run_clause_run_codes_run_node_run_use.Lts-run_argument as run-argument-lts
@@ -131,13 +131,13 @@ run-argument-put-argument-requires : (t : ℕ) → run-argument-lts.Need-put-arg
 run-argument-put-argument-requires t c κs = (leaf_room c.before.before.before.before.before.before.before.before.before.requires.1.1.4 c.before.before.before.before.source-at.ensures.0 (sym c.before.before.before.is_IsLeaf.ensures ∙ c.before.before.if1.true), c.before.before.before.before.before.before.before.before.before.requires.1.1.4.asks.room, leaf_low c.before.before.before.before.before.before.before.before.before.requires.1.1.4 c.before.before.before.before.source-at.ensures.0 (sym c.before.before.before.is_IsLeaf.ensures ∙ c.before.before.if1.true), (found_place c.before.before.before.before.before.before.before.before.before.requires.1.1.4).0, c.before.before.before.before.before.before.before.before.before.requires.1.0)
 
 run-argument-returns : (t : ℕ) → run-argument-lts.Need-returns (run-argument-calls t) (run-argument-at t) run-argument.Post
-run-argument-returns t c = λ f given ts ks a. leaf-gives a c.before.before.before.before.before.before.before.source-at.ensures.0 (sym c.before.before.before.before.before.before.is_IsLeaf.ensures ∙ c.before.before.before.before.before.if1.true) c.before.before.put-argument.ensures.0 c.before.before.put-argument.ensures.1
+run-argument-returns t c = λ f given ts ks a. leaf_gives a c.before.before.before.before.before.before.before.source-at.ensures.0 (sym c.before.before.before.before.before.before.is_IsLeaf.ensures ∙ c.before.before.before.before.before.if1.true) c.before.before.put-argument.ensures.0 c.before.before.put-argument.ensures.1
 
 run-argument-sub-run-node : (t : ℕ) → run-argument-lts.Need-overflow-sub-run-node (run-argument-calls t) (run-argument-at t) run-argument.Post
 run-argument-sub-run-node t c = omega arith
 
 run-argument-run-node-requires : (t : ℕ) → run-argument-lts.Need-run-node-requires (run-argument-calls t) (run-argument-at t) run-argument.Post
-run-argument-run-node-requires t c κs = (omega (arith, c.before.before.before.before.before.before.before.before.before.requires.0, c.before.before.before.before.before.before.before.before.before.requires.1.1.4.asks.more), (c.before.before.before.before.before.before.before.before.before.requires.1.0, (found_place c.before.before.before.before.before.before.before.before.before.requires.1.1.4).0, c.before.before.before.before.before.before.before.before.before.requires.1.1.4.asks.room, (c.before.before.before.before.before.before.before.before.before.requires.1.1.0, c.before.before.before.before.before.before.before.before.before.requires.1.1.1, _, found-asks c.before.before.before.before.before.before.before.before.before.requires.1.1.4 c.before.before.before.before.source-at.ensures.0 (sym c.before.before.before.is_IsLeaf.ensures ∙ c.before.before.if1.false))))
+run-argument-run-node-requires t c κs = (omega (arith, c.before.before.before.before.before.before.before.before.before.requires.0, c.before.before.before.before.before.before.before.before.before.requires.1.1.4.asks.more), (c.before.before.before.before.before.before.before.before.before.requires.1.0, (found_place c.before.before.before.before.before.before.before.before.before.requires.1.1.4).0, c.before.before.before.before.before.before.before.before.before.requires.1.1.4.asks.room, (c.before.before.before.before.before.before.before.before.before.requires.1.1.0, c.before.before.before.before.before.before.before.before.before.requires.1.1.1, _, found_asks c.before.before.before.before.before.before.before.before.before.requires.1.1.4 c.before.before.before.before.source-at.ensures.0 (sym c.before.before.before.is_IsLeaf.ensures ∙ c.before.before.if1.false))))
 
 run-argument-returns-2 : (t : ℕ) → run-argument-lts.Need-returns-2 (run-argument-calls t) (run-argument-at t) run-argument.Post
 run-argument-returns-2 t c = λ f given ts ks a. found_gives a c.before.before.before.before.before.before.before.source-at.ensures.0 (sym c.before.before.before.before.before.before.is_IsLeaf.ensures ∙ c.before.before.before.before.before.if1.false) c.before.before.run-node.ensures
@@ -156,76 +156,76 @@ run-clause-returns : (t : ℕ) → run-clause-lts.Need-returns (run-clause-calls
 run-clause-returns t c = λ f given ts ks cs js a. going_full (c.before.before.loop.invariant.1 f given ts ks cs js a) c.if1.true
 
 run-clause-body-at-requires : (t : ℕ) → run-clause-lts.Need-body-at-requires (run-clause-calls t) (run-clause-at t) run-clause.Post run-clause-Inv-loop run-clause-μ-loop
-run-clause-body-at-requires t c κs = omega (arith, next-below (asked c.before.before.loop.invariant.1 c.before.before.before.before.before.before.requires.1.1) c.before.loop-test.true)
+run-clause-body-at-requires t c κs = omega (arith, next_below (asked c.before.before.loop.invariant.1 c.before.before.before.before.before.before.requires.1.1) c.before.loop-test.true)
 
 run-clause-body-at-requires-2 : (t : ℕ) → run-clause-lts.Need-body-at-requires-2 (run-clause-calls t) (run-clause-at t) run-clause.Post run-clause-Inv-loop run-clause-μ-loop
-run-clause-body-at-requires-2 t c κs = next-below (asked c.before.before.before.before.loop.invariant.1 c.before.before.before.before.before.before.before.before.requires.1.1) c.before.before.before.loop-test.true
+run-clause-body-at-requires-2 t c κs = next_below (asked c.before.before.before.before.loop.invariant.1 c.before.before.before.before.before.before.before.before.requires.1.1) c.before.before.before.loop-test.true
 
 run-clause-sub-i : (t : ℕ) → run-clause-lts.Need-overflow-sub-i (run-clause-calls t) (run-clause-at t) run-clause.Post run-clause-Inv-loop run-clause-μ-loop
-run-clause-sub-i t c = omega (arith, (argument-asks (asked c.before.before.before.before.before.loop.invariant.1 c.before.before.before.before.before.before.before.before.before.requires.1.1) c.before.before.before.before.loop-test.true c.before.before.body_at.ensures.0 c.before.if2.true).some, c.body-at2.ensures.0)
+run-clause-sub-i t c = omega (arith, (argument_asks (asked c.before.before.before.before.before.loop.invariant.1 c.before.before.before.before.before.before.before.before.before.requires.1.1) c.before.before.before.before.loop-test.true c.before.before.body_at.ensures.0 c.before.if2.true).some, c.body-at2.ensures.0)
 
 run-clause-start-of-requires : (t : ℕ) → run-clause-lts.Need-start-of-requires (run-clause-calls t) (run-clause-at t) run-clause.Post run-clause-Inv-loop run-clause-μ-loop
-run-clause-start-of-requires t c κs = (c.before.before.before.before.before.before.before.before.before.before.requires.1.1.0, c.before.before.before.before.before.before.before.before.before.before.requires.1.1.1, c.before.before.before.before.before.before.before.before.before.before.requires.1.1.2, c.before.before.before.before.before.before.before.before.before.before.requires.1.1.3, find_asks c.before.body-at2.ensures.0 (argument-asks (asked c.before.before.before.before.before.before.loop.invariant.1 c.before.before.before.before.before.before.before.before.before.before.requires.1.1) c.before.before.before.before.before.loop-test.true c.before.before.before.body_at.ensures.0 c.before.before.if2.true))
+run-clause-start-of-requires t c κs = (c.before.before.before.before.before.before.before.before.before.before.requires.1.1.0, c.before.before.before.before.before.before.before.before.before.before.requires.1.1.1, c.before.before.before.before.before.before.before.before.before.before.requires.1.1.2, c.before.before.before.before.before.before.before.before.before.before.requires.1.1.3, find_asks c.before.body-at2.ensures.0 (argument_asks (asked c.before.before.before.before.before.before.loop.invariant.1 c.before.before.before.before.before.before.before.before.before.before.requires.1.1) c.before.before.before.before.before.loop-test.true c.before.before.before.body_at.ensures.0 c.before.before.if2.true))
 
 run-clause-sub-run-argument : (t : ℕ) → run-clause-lts.Need-overflow-sub-run-argument (run-clause-calls t) (run-clause-at t) run-clause.Post run-clause-Inv-loop run-clause-μ-loop
 run-clause-sub-run-argument t c = omega (arith, argument_some (asked c.before.before.before.before.before.before.before.before.loop.invariant.1 c.before.before.before.before.before.before.before.before.before.before.before.before.requires.1.1) c.before.before.before.before.before.before.before.loop-test.true c.before.before.before.before.before.body_at.ensures.0 c.before.before.before.before.if2.true)
 
 run-clause-run-argument-requires : (t : ℕ) → run-clause-lts.Need-run-argument-requires (run-clause-calls t) (run-clause-at t) run-clause.Post run-clause-Inv-loop run-clause-μ-loop
-run-clause-run-argument-requires t c κs = (omega (arith, c.before.before.before.before.before.before.before.before.before.before.before.before.before.requires.0, argument_some (asked c.before.before.before.before.before.before.before.before.before.loop.invariant.1 c.before.before.before.before.before.before.before.before.before.before.before.before.before.requires.1.1) c.before.before.before.before.before.before.before.before.loop-test.true c.before.before.before.before.before.before.body_at.ensures.0 c.before.before.before.before.before.if2.true), (c.before.before.before.before.before.before.before.if1.false, (c.before.before.before.before.before.before.before.before.before.before.before.before.before.requires.1.1.0, c.before.before.before.before.before.before.before.before.before.before.before.before.before.requires.1.1.1, c.before.before.before.before.before.before.before.before.before.before.before.before.before.requires.1.1.2, c.before.before.before.before.before.before.before.before.before.before.before.before.before.requires.1.1.3, placed c.before.before.before.before.body-at2.ensures.0 (argument-asks (asked c.before.before.before.before.before.before.before.before.before.loop.invariant.1 c.before.before.before.before.before.before.before.before.before.before.before.before.before.requires.1.1) c.before.before.before.before.before.before.before.before.loop-test.true c.before.before.before.before.before.before.body_at.ensures.0 c.before.before.before.before.before.if2.true) c.before.before.start_of_lem.ensures)))
+run-clause-run-argument-requires t c κs = (omega (arith, c.before.before.before.before.before.before.before.before.before.before.before.before.before.requires.0, argument_some (asked c.before.before.before.before.before.before.before.before.before.loop.invariant.1 c.before.before.before.before.before.before.before.before.before.before.before.before.before.requires.1.1) c.before.before.before.before.before.before.before.before.loop-test.true c.before.before.before.before.before.before.body_at.ensures.0 c.before.before.before.before.before.if2.true), (c.before.before.before.before.before.before.before.if1.false, (c.before.before.before.before.before.before.before.before.before.before.before.before.before.requires.1.1.0, c.before.before.before.before.before.before.before.before.before.before.before.before.before.requires.1.1.1, c.before.before.before.before.before.before.before.before.before.before.before.before.before.requires.1.1.2, c.before.before.before.before.before.before.before.before.before.before.before.before.before.requires.1.1.3, placed c.before.before.before.before.body-at2.ensures.0 (argument_asks (asked c.before.before.before.before.before.before.before.before.before.loop.invariant.1 c.before.before.before.before.before.before.before.before.before.before.before.before.before.requires.1.1) c.before.before.before.before.before.before.before.before.loop-test.true c.before.before.before.before.before.before.body_at.ensures.0 c.before.before.before.before.before.if2.true) c.before.before.start_of_lem.ensures)))
 
 run-clause-sub-c : (t : ℕ) → run-clause-lts.Need-overflow-sub-c (run-clause-calls t) (run-clause-at t) run-clause.Post run-clause-Inv-loop run-clause-μ-loop
 run-clause-sub-c t c = omega (arith, c.before.before.before.before.before.before.before.before.if2.true)
 
 run-clause-add-c : (t : ℕ) → run-clause-lts.Need-overflow-add-c (run-clause-calls t) (run-clause-at t) run-clause.Post run-clause-Inv-loop run-clause-μ-loop
-run-clause-add-c t c = omega (arith, next-below (asked c.before.before.before.before.before.before.before.before.before.before.before.before.loop.invariant.1 c.before.before.before.before.before.before.before.before.before.before.before.before.before.before.before.before.requires.1.1) c.before.before.before.before.before.before.before.before.before.before.before.loop-test.true, c.before.before.before.before.before.before.before.before.before.body_at.ensures.1)
+run-clause-add-c t c = omega (arith, next_below (asked c.before.before.before.before.before.before.before.before.before.before.before.before.loop.invariant.1 c.before.before.before.before.before.before.before.before.before.before.before.before.before.before.before.before.requires.1.1) c.before.before.before.before.before.before.before.before.before.before.before.loop-test.true, c.before.before.before.before.before.before.before.before.before.body_at.ensures.1)
 
 run-clause-loop-less : (t : ℕ) → run-clause-lts.Need-loop-smaller (run-clause-calls t) (run-clause-at t) run-clause.Post run-clause-Inv-loop run-clause-μ-loop
 run-clause-loop-less t c = omega (arith, c.before.before.before.before.before.before.before.before.if2.true, c.before.before.before.before.before.before.before.before.before.before.before.loop-test.true)
 
 run-clause-loop-again : (t : ℕ) → run-clause-lts.Need-loop-preserved (run-clause-calls t) (run-clause-at t) run-clause.Post run-clause-Inv-loop run-clause-μ-loop
-run-clause-loop-again t c = (c.before.out.given ∙ c.before.before.before.before.before.before.before.before.before.before.before.before.loop.invariant.0, λ f given ts ks cs js a. argument-turn (c.before.before.before.before.before.before.before.before.before.before.before.before.loop.invariant.1 f given ts ks cs js a) c.before.before.before.before.before.before.before.before.before.before.before.loop-test.true c.before.before.before.before.before.before.before.before.before.body_at.ensures.0 c.before.before.before.before.before.before.before.before.if2.true (placed_gives c.before.before.before.before.before.before.before.body-at2.ensures.0 c.before.before.before.before.before.start_of_lem.ensures c.before.before.run-argument.ensures))
+run-clause-loop-again t c = (c.before.out.given ∙ c.before.before.before.before.before.before.before.before.before.before.before.before.loop.invariant.0, λ f given ts ks cs js a. argument_turn (c.before.before.before.before.before.before.before.before.before.before.before.before.loop.invariant.1 f given ts ks cs js a) c.before.before.before.before.before.before.before.before.before.before.before.loop-test.true c.before.before.before.before.before.before.before.before.before.body_at.ensures.0 c.before.before.before.before.before.before.before.before.if2.true (placed_gives c.before.before.before.before.before.before.before.body-at2.ensures.0 c.before.before.before.before.before.start_of_lem.ensures c.before.before.run-argument.ensures))
 
 run-clause-body-at-requires-3 : (t : ℕ) → run-clause-lts.Need-body-at-requires-3 (run-clause-calls t) (run-clause-at t) run-clause.Post run-clause-Inv-loop run-clause-μ-loop
-run-clause-body-at-requires-3 t c κs = next-below (asked c.before.before.before.before.before.loop.invariant.1 c.before.before.before.before.before.before.before.before.before.requires.1.1) c.before.before.before.before.loop-test.true
+run-clause-body-at-requires-3 t c κs = next_below (asked c.before.before.before.before.before.loop.invariant.1 c.before.before.before.before.before.before.before.before.before.requires.1.1) c.before.before.before.before.loop-test.true
 
 run-clause-cast-put-name : (t : ℕ) → run-clause-lts.Need-overflow-cast-put-name (run-clause-calls t) (run-clause-at t) run-clause.Post run-clause-Inv-loop run-clause-μ-loop
-run-clause-cast-put-name t c = omega (arith, next-narrow (asked c.before.before.before.before.before.before.loop.invariant.1 c.before.before.before.before.before.before.before.before.before.before.requires.1.1) c.before.before.before.before.before.loop-test.true c.body-at3.ensures.0 (omega arith) (next-two (asked c.before.before.before.before.before.before.loop.invariant.1 c.before.before.before.before.before.before.before.before.before.before.requires.1.1) c.before.before.before.before.before.loop-test.true))
+run-clause-cast-put-name t c = omega (arith, next_narrow (asked c.before.before.before.before.before.before.loop.invariant.1 c.before.before.before.before.before.before.before.before.before.before.requires.1.1) c.before.before.before.before.before.loop-test.true c.body-at3.ensures.0 (omega arith) (next_two (asked c.before.before.before.before.before.before.loop.invariant.1 c.before.before.before.before.before.before.before.before.before.before.requires.1.1) c.before.before.before.before.before.loop-test.true))
 
 run-clause-put-name-requires : (t : ℕ) → run-clause-lts.Need-put-name-requires (run-clause-calls t) (run-clause-at t) run-clause.Post run-clause-Inv-loop run-clause-μ-loop
 run-clause-put-name-requires t c κs = c.before.before.before.before.before.if1.false
 
 run-clause-span-at-requires : (t : ℕ) → run-clause-lts.Need-span-at-requires (run-clause-calls t) (run-clause-at t) run-clause.Post run-clause-Inv-loop run-clause-μ-loop
-run-clause-span-at-requires t c κs = omega (arith, next-below (asked c.before.before.before.before.before.before.before.before.before.before.loop.invariant.1 c.before.before.before.before.before.before.before.before.before.before.before.before.before.before.requires.1.1) c.before.before.before.before.before.before.before.before.before.loop-test.true)
+run-clause-span-at-requires t c κs = omega (arith, next_below (asked c.before.before.before.before.before.before.before.before.before.before.loop.invariant.1 c.before.before.before.before.before.before.before.before.before.before.before.before.before.before.requires.1.1) c.before.before.before.before.before.before.before.before.before.loop-test.true)
 
 run-clause-sub-run-codes : (t : ℕ) → run-clause-lts.Need-overflow-sub-run-codes (run-clause-calls t) (run-clause-at t) run-clause.Post run-clause-Inv-loop run-clause-μ-loop
 run-clause-sub-run-codes t c = omega (arith, named_some (asked c.before.before.before.before.before.before.before.before.before.before.before.before.loop.invariant.1 c.before.before.before.before.before.before.before.before.before.before.before.before.before.before.before.before.requires.1.1) c.before.before.before.before.before.before.before.before.before.before.before.loop-test.true (sym c.before.before.before.before.before.before.before.before.before.body_at.ensures.0 ∙ c.before.before.before.before.before.before.before.if3.true))
 
 run-clause-run-codes-requires : (t : ℕ) → run-clause-lts.Need-run-codes-requires (run-clause-calls t) (run-clause-at t) run-clause.Post run-clause-Inv-loop run-clause-μ-loop
-run-clause-run-codes-requires t c κs = let w = named-asks (asked c.before.before.before.before.before.before.before.before.before.before.before.before.before.loop.invariant.1 c.before.before.before.before.before.before.before.before.before.before.before.before.before.before.before.before.before.requires.1.1) c.before.before.before.before.before.before.before.before.before.before.before.before.loop-test.true (sym c.before.before.before.before.before.before.before.before.before.before.body_at.ensures.0 ∙ c.before.before.before.before.before.before.before.before.if3.true) c.before.before.span-at.ensures.0 in (omega (arith, c.before.before.before.before.before.before.before.before.before.before.before.before.before.before.before.before.before.requires.0, named_some (asked c.before.before.before.before.before.before.before.before.before.before.before.before.before.loop.invariant.1 c.before.before.before.before.before.before.before.before.before.before.before.before.before.before.before.before.before.requires.1.1) c.before.before.before.before.before.before.before.before.before.before.before.before.loop-test.true (sym c.before.before.before.before.before.before.before.before.before.before.body_at.ensures.0 ∙ c.before.before.before.before.before.before.before.before.if3.true)), (omega (arith, c.before.before.before.before.before.before.before.before.before.before.before.before.before.before.before.before.before.requires.1.0, named_some (asked c.before.before.before.before.before.before.before.before.before.before.before.before.before.loop.invariant.1 c.before.before.before.before.before.before.before.before.before.before.before.before.before.before.before.before.before.requires.1.1) c.before.before.before.before.before.before.before.before.before.before.before.before.loop-test.true (sym c.before.before.before.before.before.before.before.before.before.before.body_at.ensures.0 ∙ c.before.before.before.before.before.before.before.before.if3.true)), (c.before.before.before.before.before.before.before.before.before.before.before.before.before.before.before.before.before.requires.1.1.0, c.before.before.before.before.before.before.before.before.before.before.before.before.before.before.before.before.before.requires.1.1.1, c.before.before.before.before.before.before.before.before.before.before.before.before.before.before.before.before.before.requires.1.1.2, c.before.before.before.before.before.before.before.before.before.before.before.before.before.before.before.before.before.requires.1.1.3, w.0, w.1, w.2)))
+run-clause-run-codes-requires t c κs = let w = named_asks (asked c.before.before.before.before.before.before.before.before.before.before.before.before.before.loop.invariant.1 c.before.before.before.before.before.before.before.before.before.before.before.before.before.before.before.before.before.requires.1.1) c.before.before.before.before.before.before.before.before.before.before.before.before.loop-test.true (sym c.before.before.before.before.before.before.before.before.before.before.body_at.ensures.0 ∙ c.before.before.before.before.before.before.before.before.if3.true) c.before.before.span-at.ensures.0 in (omega (arith, c.before.before.before.before.before.before.before.before.before.before.before.before.before.before.before.before.before.requires.0, named_some (asked c.before.before.before.before.before.before.before.before.before.before.before.before.before.loop.invariant.1 c.before.before.before.before.before.before.before.before.before.before.before.before.before.before.before.before.before.requires.1.1) c.before.before.before.before.before.before.before.before.before.before.before.before.loop-test.true (sym c.before.before.before.before.before.before.before.before.before.before.body_at.ensures.0 ∙ c.before.before.before.before.before.before.before.before.if3.true)), (omega (arith, c.before.before.before.before.before.before.before.before.before.before.before.before.before.before.before.before.before.requires.1.0, named_some (asked c.before.before.before.before.before.before.before.before.before.before.before.before.before.loop.invariant.1 c.before.before.before.before.before.before.before.before.before.before.before.before.before.before.before.before.before.requires.1.1) c.before.before.before.before.before.before.before.before.before.before.before.before.loop-test.true (sym c.before.before.before.before.before.before.before.before.before.before.body_at.ensures.0 ∙ c.before.before.before.before.before.before.before.before.if3.true)), (c.before.before.before.before.before.before.before.before.before.before.before.before.before.before.before.before.before.requires.1.1.0, c.before.before.before.before.before.before.before.before.before.before.before.before.before.before.before.before.before.requires.1.1.1, c.before.before.before.before.before.before.before.before.before.before.before.before.before.before.before.before.before.requires.1.1.2, c.before.before.before.before.before.before.before.before.before.before.before.before.before.before.before.before.before.requires.1.1.3, w.0, w.1, w.2)))
 
 run-clause-loop-less-2 : (t : ℕ) → run-clause-lts.Need-loop-smaller-2 (run-clause-calls t) (run-clause-at t) run-clause.Post run-clause-Inv-loop run-clause-μ-loop
-run-clause-loop-less-2 t c = omega (arith, (named-room (asked c.before.before.before.before.before.before.before.before.before.before.before.before.before.before.before.before.loop.invariant.1 c.before.before.before.before.before.before.before.before.before.before.before.before.before.before.before.before.before.before.before.before.requires.1.1) c.before.before.before.before.before.before.before.before.before.before.before.before.before.before.before.loop-test.true (sym c.before.before.before.before.before.before.before.before.before.before.before.before.before.body_at.ensures.0 ∙ c.before.before.before.before.before.before.before.before.before.before.before.if3.true)).0, c.before.before.before.before.before.span-at.ensures.0, c.before.before.before.before.before.before.before.before.before.before.before.before.before.before.before.loop-test.true)
+run-clause-loop-less-2 t c = omega (arith, (named_room (asked c.before.before.before.before.before.before.before.before.before.before.before.before.before.before.before.before.loop.invariant.1 c.before.before.before.before.before.before.before.before.before.before.before.before.before.before.before.before.before.before.before.before.requires.1.1) c.before.before.before.before.before.before.before.before.before.before.before.before.before.before.before.loop-test.true (sym c.before.before.before.before.before.before.before.before.before.before.before.before.before.body_at.ensures.0 ∙ c.before.before.before.before.before.before.before.before.before.before.before.if3.true)).0, c.before.before.before.before.before.span-at.ensures.0, c.before.before.before.before.before.before.before.before.before.before.before.before.before.before.before.loop-test.true)
 
 run-clause-loop-again-2 : (t : ℕ) → run-clause-lts.Need-loop-preserved-2 (run-clause-calls t) (run-clause-at t) run-clause.Post run-clause-Inv-loop run-clause-μ-loop
-run-clause-loop-again-2 t c = (c.before.out3.given ∙ (c.before.before.before.before.before.before.before.out2.given ∙ c.before.before.before.before.before.before.before.before.before.before.before.before.before.before.before.before.loop.invariant.0), λ f given ts ks cs js a. inner-turn (c.before.before.before.before.before.before.before.before.before.before.before.before.before.before.before.before.loop.invariant.1 f given ts ks cs js a) c.before.before.before.before.before.before.before.before.before.before.before.before.before.before.before.loop-test.true (sym c.before.before.before.before.before.before.before.before.before.before.before.before.before.body_at.ensures.0 ∙ c.before.before.before.before.before.before.before.before.before.before.before.if3.true) c.before.before.before.before.before.before.before.before.before.before.body-at3.ensures.0 c.before.before.before.before.before.before.before.before.put-name.ensures c.before.before.before.before.before.span-at.ensures.0 c.before.before.run-codes.ensures)
+run-clause-loop-again-2 t c = (c.before.out3.given ∙ (c.before.before.before.before.before.before.before.out2.given ∙ c.before.before.before.before.before.before.before.before.before.before.before.before.before.before.before.before.loop.invariant.0), λ f given ts ks cs js a. inner_turn (c.before.before.before.before.before.before.before.before.before.before.before.before.before.before.before.before.loop.invariant.1 f given ts ks cs js a) c.before.before.before.before.before.before.before.before.before.before.before.before.before.before.before.loop-test.true (sym c.before.before.before.before.before.before.before.before.before.before.before.before.before.body_at.ensures.0 ∙ c.before.before.before.before.before.before.before.before.before.before.before.if3.true) c.before.before.before.before.before.before.before.before.before.before.body-at3.ensures.0 c.before.before.before.before.before.before.before.before.put-name.ensures c.before.before.before.before.before.span-at.ensures.0 c.before.before.run-codes.ensures)
 
 run-clause-body-at-requires-4 : (t : ℕ) → run-clause-lts.Need-body-at-requires-4 (run-clause-calls t) (run-clause-at t) run-clause.Post run-clause-Inv-loop run-clause-μ-loop
-run-clause-body-at-requires-4 t c κs = next-below (asked c.before.before.before.before.before.loop.invariant.1 c.before.before.before.before.before.before.before.before.before.requires.1.1) c.before.before.before.before.loop-test.true
+run-clause-body-at-requires-4 t c κs = next_below (asked c.before.before.before.before.before.loop.invariant.1 c.before.before.before.before.before.before.before.before.before.requires.1.1) c.before.before.before.before.loop-test.true
 
 run-clause-cast-high : (t : ℕ) → run-clause-lts.Need-overflow-cast-high (run-clause-calls t) (run-clause-at t) run-clause.Post run-clause-Inv-loop run-clause-μ-loop
-run-clause-cast-high t c = omega (arith, next-narrow (asked c.before.before.before.before.before.before.loop.invariant.1 c.before.before.before.before.before.before.before.before.before.before.requires.1.1) c.before.before.before.before.before.loop-test.true c.body-at4.ensures.0 (omega arith) (next-two (asked c.before.before.before.before.before.before.loop.invariant.1 c.before.before.before.before.before.before.before.before.before.before.requires.1.1) c.before.before.before.before.before.loop-test.true))
+run-clause-cast-high t c = omega (arith, next_narrow (asked c.before.before.before.before.before.before.loop.invariant.1 c.before.before.before.before.before.before.before.before.before.before.requires.1.1) c.before.before.before.before.before.loop-test.true c.body-at4.ensures.0 (omega arith) (next_two (asked c.before.before.before.before.before.before.loop.invariant.1 c.before.before.before.before.before.before.before.before.before.before.requires.1.1) c.before.before.before.before.before.loop-test.true))
 
 run-clause-body-at-requires-5 : (t : ℕ) → run-clause-lts.Need-body-at-requires-5 (run-clause-calls t) (run-clause-at t) run-clause.Post run-clause-Inv-loop run-clause-μ-loop
-run-clause-body-at-requires-5 t c κs = token-room (asked c.before.before.before.before.before.before.loop.invariant.1 c.before.before.before.before.before.before.before.before.before.before.requires.1.1) c.before.before.before.before.before.loop-test.true (λ z. c.before.if3.false (c.before.before.before.body_at.ensures.0 ∙ z)) (omega (arith, c.before.before.if2.false, c.before.before.before.body_at.ensures.0))
+run-clause-body-at-requires-5 t c κs = token_room (asked c.before.before.before.before.before.before.loop.invariant.1 c.before.before.before.before.before.before.before.before.before.before.requires.1.1) c.before.before.before.before.before.loop-test.true (λ z. c.before.if3.false (c.before.before.before.body_at.ensures.0 ∙ z)) (omega (arith, c.before.before.if2.false, c.before.before.before.body_at.ensures.0))
 
 run-clause-cast-low : (t : ℕ) → run-clause-lts.Need-overflow-cast-low (run-clause-calls t) (run-clause-at t) run-clause.Post run-clause-Inv-loop run-clause-μ-loop
-run-clause-cast-low t c = omega (arith, next-narrow (asked c.before.before.before.before.before.before.before.loop.invariant.1 c.before.before.before.before.before.before.before.before.before.before.before.requires.1.1) c.before.before.before.before.before.before.loop-test.true c.body-at5.ensures.0 (omega arith) (token-three (asked c.before.before.before.before.before.before.before.loop.invariant.1 c.before.before.before.before.before.before.before.before.before.before.before.requires.1.1) c.before.before.before.before.before.before.loop-test.true (λ z. c.before.before.if3.false (c.before.before.before.before.body_at.ensures.0 ∙ z)) (omega (arith, c.before.before.before.if2.false, c.before.before.before.before.body_at.ensures.0))))
+run-clause-cast-low t c = omega (arith, next_narrow (asked c.before.before.before.before.before.before.before.loop.invariant.1 c.before.before.before.before.before.before.before.before.before.before.before.requires.1.1) c.before.before.before.before.before.before.loop-test.true c.body-at5.ensures.0 (omega arith) (token_three (asked c.before.before.before.before.before.before.before.loop.invariant.1 c.before.before.before.before.before.before.before.before.before.before.before.requires.1.1) c.before.before.before.before.before.before.loop-test.true (λ z. c.before.before.if3.false (c.before.before.before.before.body_at.ensures.0 ∙ z)) (omega (arith, c.before.before.before.if2.false, c.before.before.before.before.body_at.ensures.0))))
 
 run-clause-put-token-requires : (t : ℕ) → run-clause-lts.Need-put-token-requires (run-clause-calls t) (run-clause-at t) run-clause.Post run-clause-Inv-loop run-clause-μ-loop
 run-clause-put-token-requires t c κs = c.before.before.before.before.before.before.if1.false
 
 run-clause-loop-again-3 : (t : ℕ) → run-clause-lts.Need-loop-preserved-3 (run-clause-calls t) (run-clause-at t) run-clause.Post run-clause-Inv-loop run-clause-μ-loop
-run-clause-loop-again-3 t c = (c.before.out4.given ∙ c.before.before.before.before.before.before.before.before.before.before.before.loop.invariant.0, λ f given ts ks cs js a. token-turn (c.before.before.before.before.before.before.before.before.before.before.before.loop.invariant.1 f given ts ks cs js a) c.before.before.before.before.before.before.before.before.before.before.loop-test.true (λ z. c.before.before.before.before.before.before.if3.false (c.before.before.before.before.before.before.before.before.body_at.ensures.0 ∙ z)) (omega (arith, c.before.before.before.before.before.before.before.if2.false, c.before.before.before.before.before.before.before.before.body_at.ensures.0)) c.before.before.before.before.before.body-at4.ensures.0 c.before.before.before.before.body-at5.ensures.0 c.before.before.put-token.ensures)
+run-clause-loop-again-3 t c = (c.before.out4.given ∙ c.before.before.before.before.before.before.before.before.before.before.before.loop.invariant.0, λ f given ts ks cs js a. token_turn (c.before.before.before.before.before.before.before.before.before.before.before.loop.invariant.1 f given ts ks cs js a) c.before.before.before.before.before.before.before.before.before.before.loop-test.true (λ z. c.before.before.before.before.before.before.if3.false (c.before.before.before.before.before.before.before.before.body_at.ensures.0 ∙ z)) (omega (arith, c.before.before.before.before.before.before.before.if2.false, c.before.before.before.before.before.before.before.before.body_at.ensures.0)) c.before.before.before.before.before.body-at4.ensures.0 c.before.before.before.before.body-at5.ensures.0 c.before.before.put-token.ensures)
 
 run-clause-returns-2 : (t : ℕ) → run-clause-lts.Need-returns-2 (run-clause-calls t) (run-clause-at t) run-clause.Post run-clause-Inv-loop run-clause-μ-loop
 run-clause-returns-2 t c = λ f given ts ks cs js a. going_end (c.before.loop.invariant.1 f given ts ks cs js a) c.loop-test.false
@@ -244,76 +244,76 @@ run-codes-returns : (t : ℕ) → run-codes-lts.Need-returns (run-codes-calls t)
 run-codes-returns t c = λ f given ts ks cs js a. going_full (c.before.before.loop.invariant.1 f given ts ks cs js a) c.if1.true
 
 run-codes-body-at-requires : (t : ℕ) → run-codes-lts.Need-body-at-requires (run-codes-calls t) (run-codes-at t) run-codes.Post run-codes-Inv-loop run-codes-μ-loop
-run-codes-body-at-requires t c κs = omega (arith, next-below (asked c.before.before.loop.invariant.1 c.before.before.before.before.before.before.requires.1.1) c.before.loop-test.true)
+run-codes-body-at-requires t c κs = omega (arith, next_below (asked c.before.before.loop.invariant.1 c.before.before.before.before.before.before.requires.1.1) c.before.loop-test.true)
 
 run-codes-body-at-requires-2 : (t : ℕ) → run-codes-lts.Need-body-at-requires-2 (run-codes-calls t) (run-codes-at t) run-codes.Post run-codes-Inv-loop run-codes-μ-loop
-run-codes-body-at-requires-2 t c κs = next-below (asked c.before.before.before.before.loop.invariant.1 c.before.before.before.before.before.before.before.before.requires.1.1) c.before.before.before.loop-test.true
+run-codes-body-at-requires-2 t c κs = next_below (asked c.before.before.before.before.loop.invariant.1 c.before.before.before.before.before.before.before.before.requires.1.1) c.before.before.before.loop-test.true
 
 run-codes-sub-j : (t : ℕ) → run-codes-lts.Need-overflow-sub-j (run-codes-calls t) (run-codes-at t) run-codes.Post run-codes-Inv-loop run-codes-μ-loop
-run-codes-sub-j t c = omega (arith, (argument-asks (asked c.before.before.before.before.before.loop.invariant.1 c.before.before.before.before.before.before.before.before.before.requires.1.1) c.before.before.before.before.loop-test.true c.before.before.body_at.ensures.0 c.before.if2.true).some, c.body-at2.ensures.0)
+run-codes-sub-j t c = omega (arith, (argument_asks (asked c.before.before.before.before.before.loop.invariant.1 c.before.before.before.before.before.before.before.before.before.requires.1.1) c.before.before.before.before.loop-test.true c.before.before.body_at.ensures.0 c.before.if2.true).some, c.body-at2.ensures.0)
 
 run-codes-start-of-requires : (t : ℕ) → run-codes-lts.Need-start-of-requires (run-codes-calls t) (run-codes-at t) run-codes.Post run-codes-Inv-loop run-codes-μ-loop
-run-codes-start-of-requires t c κs = (c.before.before.before.before.before.before.before.before.before.before.requires.1.1.0, c.before.before.before.before.before.before.before.before.before.before.requires.1.1.1, c.before.before.before.before.before.before.before.before.before.before.requires.1.1.2, c.before.before.before.before.before.before.before.before.before.before.requires.1.1.3, find_asks c.before.body-at2.ensures.0 (argument-asks (asked c.before.before.before.before.before.before.loop.invariant.1 c.before.before.before.before.before.before.before.before.before.before.requires.1.1) c.before.before.before.before.before.loop-test.true c.before.before.before.body_at.ensures.0 c.before.before.if2.true))
+run-codes-start-of-requires t c κs = (c.before.before.before.before.before.before.before.before.before.before.requires.1.1.0, c.before.before.before.before.before.before.before.before.before.before.requires.1.1.1, c.before.before.before.before.before.before.before.before.before.before.requires.1.1.2, c.before.before.before.before.before.before.before.before.before.before.requires.1.1.3, find_asks c.before.body-at2.ensures.0 (argument_asks (asked c.before.before.before.before.before.before.loop.invariant.1 c.before.before.before.before.before.before.before.before.before.before.requires.1.1) c.before.before.before.before.before.loop-test.true c.before.before.before.body_at.ensures.0 c.before.before.if2.true))
 
 run-codes-sub-run-use : (t : ℕ) → run-codes-lts.Need-overflow-sub-run-use (run-codes-calls t) (run-codes-at t) run-codes.Post run-codes-Inv-loop run-codes-μ-loop
 run-codes-sub-run-use t c = omega (arith, argument_some (asked c.before.before.before.before.before.before.before.before.loop.invariant.1 c.before.before.before.before.before.before.before.before.before.before.before.before.requires.1.1) c.before.before.before.before.before.before.before.loop-test.true c.before.before.before.before.before.body_at.ensures.0 c.before.before.before.before.if2.true)
 
 run-codes-run-use-requires : (t : ℕ) → run-codes-lts.Need-run-use-requires (run-codes-calls t) (run-codes-at t) run-codes.Post run-codes-Inv-loop run-codes-μ-loop
-run-codes-run-use-requires t c κs = (omega (arith, c.before.before.before.before.before.before.before.before.before.before.before.before.before.requires.0, argument_some (asked c.before.before.before.before.before.before.before.before.before.loop.invariant.1 c.before.before.before.before.before.before.before.before.before.before.before.before.before.requires.1.1) c.before.before.before.before.before.before.before.before.loop-test.true c.before.before.before.before.before.before.body_at.ensures.0 c.before.before.before.before.before.if2.true), (c.before.before.before.before.before.before.before.if1.false, (c.before.before.before.before.before.before.before.before.before.before.before.before.before.requires.1.1.0, c.before.before.before.before.before.before.before.before.before.before.before.before.before.requires.1.1.1, c.before.before.before.before.before.before.before.before.before.before.before.before.before.requires.1.1.2, c.before.before.before.before.before.before.before.before.before.before.before.before.before.requires.1.1.3, placed c.before.before.before.before.body-at2.ensures.0 (argument-asks (asked c.before.before.before.before.before.before.before.before.before.loop.invariant.1 c.before.before.before.before.before.before.before.before.before.before.before.before.before.requires.1.1) c.before.before.before.before.before.before.before.before.loop-test.true c.before.before.before.before.before.before.body_at.ensures.0 c.before.before.before.before.before.if2.true) c.before.before.start_of_lem.ensures)))
+run-codes-run-use-requires t c κs = (omega (arith, c.before.before.before.before.before.before.before.before.before.before.before.before.before.requires.0, argument_some (asked c.before.before.before.before.before.before.before.before.before.loop.invariant.1 c.before.before.before.before.before.before.before.before.before.before.before.before.before.requires.1.1) c.before.before.before.before.before.before.before.before.loop-test.true c.before.before.before.before.before.before.body_at.ensures.0 c.before.before.before.before.before.if2.true), (c.before.before.before.before.before.before.before.if1.false, (c.before.before.before.before.before.before.before.before.before.before.before.before.before.requires.1.1.0, c.before.before.before.before.before.before.before.before.before.before.before.before.before.requires.1.1.1, c.before.before.before.before.before.before.before.before.before.before.before.before.before.requires.1.1.2, c.before.before.before.before.before.before.before.before.before.before.before.before.before.requires.1.1.3, placed c.before.before.before.before.body-at2.ensures.0 (argument_asks (asked c.before.before.before.before.before.before.before.before.before.loop.invariant.1 c.before.before.before.before.before.before.before.before.before.before.before.before.before.requires.1.1) c.before.before.before.before.before.before.before.before.loop-test.true c.before.before.before.before.before.before.body_at.ensures.0 c.before.before.before.before.before.if2.true) c.before.before.start_of_lem.ensures)))
 
 run-codes-sub-c : (t : ℕ) → run-codes-lts.Need-overflow-sub-c (run-codes-calls t) (run-codes-at t) run-codes.Post run-codes-Inv-loop run-codes-μ-loop
 run-codes-sub-c t c = omega (arith, c.before.before.before.before.before.before.before.before.if2.true)
 
 run-codes-add-c : (t : ℕ) → run-codes-lts.Need-overflow-add-c (run-codes-calls t) (run-codes-at t) run-codes.Post run-codes-Inv-loop run-codes-μ-loop
-run-codes-add-c t c = omega (arith, next-below (asked c.before.before.before.before.before.before.before.before.before.before.before.before.loop.invariant.1 c.before.before.before.before.before.before.before.before.before.before.before.before.before.before.before.before.requires.1.1) c.before.before.before.before.before.before.before.before.before.before.before.loop-test.true, c.before.before.before.before.before.before.before.before.before.body_at.ensures.1)
+run-codes-add-c t c = omega (arith, next_below (asked c.before.before.before.before.before.before.before.before.before.before.before.before.loop.invariant.1 c.before.before.before.before.before.before.before.before.before.before.before.before.before.before.before.before.requires.1.1) c.before.before.before.before.before.before.before.before.before.before.before.loop-test.true, c.before.before.before.before.before.before.before.before.before.body_at.ensures.1)
 
 run-codes-loop-less : (t : ℕ) → run-codes-lts.Need-loop-smaller (run-codes-calls t) (run-codes-at t) run-codes.Post run-codes-Inv-loop run-codes-μ-loop
 run-codes-loop-less t c = omega (arith, c.before.before.before.before.before.before.before.before.if2.true, c.before.before.before.before.before.before.before.before.before.before.before.loop-test.true)
 
 run-codes-loop-again : (t : ℕ) → run-codes-lts.Need-loop-preserved (run-codes-calls t) (run-codes-at t) run-codes.Post run-codes-Inv-loop run-codes-μ-loop
-run-codes-loop-again t c = (c.before.out.given ∙ c.before.before.before.before.before.before.before.before.before.before.before.before.loop.invariant.0, λ f given ts ks cs js a. argument-turn (c.before.before.before.before.before.before.before.before.before.before.before.before.loop.invariant.1 f given ts ks cs js a) c.before.before.before.before.before.before.before.before.before.before.before.loop-test.true c.before.before.before.before.before.before.before.before.before.body_at.ensures.0 c.before.before.before.before.before.before.before.before.if2.true (placed_gives c.before.before.before.before.before.before.before.body-at2.ensures.0 c.before.before.before.before.before.start_of_lem.ensures c.before.before.run-use.ensures))
+run-codes-loop-again t c = (c.before.out.given ∙ c.before.before.before.before.before.before.before.before.before.before.before.before.loop.invariant.0, λ f given ts ks cs js a. argument_turn (c.before.before.before.before.before.before.before.before.before.before.before.before.loop.invariant.1 f given ts ks cs js a) c.before.before.before.before.before.before.before.before.before.before.before.loop-test.true c.before.before.before.before.before.before.before.before.before.body_at.ensures.0 c.before.before.before.before.before.before.before.before.if2.true (placed_gives c.before.before.before.before.before.before.before.body-at2.ensures.0 c.before.before.before.before.before.start_of_lem.ensures c.before.before.run-use.ensures))
 
 run-codes-body-at-requires-3 : (t : ℕ) → run-codes-lts.Need-body-at-requires-3 (run-codes-calls t) (run-codes-at t) run-codes.Post run-codes-Inv-loop run-codes-μ-loop
-run-codes-body-at-requires-3 t c κs = next-below (asked c.before.before.before.before.before.loop.invariant.1 c.before.before.before.before.before.before.before.before.before.requires.1.1) c.before.before.before.before.loop-test.true
+run-codes-body-at-requires-3 t c κs = next_below (asked c.before.before.before.before.before.loop.invariant.1 c.before.before.before.before.before.before.before.before.before.requires.1.1) c.before.before.before.before.loop-test.true
 
 run-codes-cast-put-name : (t : ℕ) → run-codes-lts.Need-overflow-cast-put-name (run-codes-calls t) (run-codes-at t) run-codes.Post run-codes-Inv-loop run-codes-μ-loop
-run-codes-cast-put-name t c = omega (arith, next-narrow (asked c.before.before.before.before.before.before.loop.invariant.1 c.before.before.before.before.before.before.before.before.before.before.requires.1.1) c.before.before.before.before.before.loop-test.true c.body-at3.ensures.0 (omega arith) (next-two (asked c.before.before.before.before.before.before.loop.invariant.1 c.before.before.before.before.before.before.before.before.before.before.requires.1.1) c.before.before.before.before.before.loop-test.true))
+run-codes-cast-put-name t c = omega (arith, next_narrow (asked c.before.before.before.before.before.before.loop.invariant.1 c.before.before.before.before.before.before.before.before.before.before.requires.1.1) c.before.before.before.before.before.loop-test.true c.body-at3.ensures.0 (omega arith) (next_two (asked c.before.before.before.before.before.before.loop.invariant.1 c.before.before.before.before.before.before.before.before.before.before.requires.1.1) c.before.before.before.before.before.loop-test.true))
 
 run-codes-put-name-requires : (t : ℕ) → run-codes-lts.Need-put-name-requires (run-codes-calls t) (run-codes-at t) run-codes.Post run-codes-Inv-loop run-codes-μ-loop
 run-codes-put-name-requires t c κs = c.before.before.before.before.before.if1.false
 
 run-codes-span-at-requires : (t : ℕ) → run-codes-lts.Need-span-at-requires (run-codes-calls t) (run-codes-at t) run-codes.Post run-codes-Inv-loop run-codes-μ-loop
-run-codes-span-at-requires t c κs = omega (arith, next-below (asked c.before.before.before.before.before.before.before.before.before.before.loop.invariant.1 c.before.before.before.before.before.before.before.before.before.before.before.before.before.before.requires.1.1) c.before.before.before.before.before.before.before.before.before.loop-test.true)
+run-codes-span-at-requires t c κs = omega (arith, next_below (asked c.before.before.before.before.before.before.before.before.before.before.loop.invariant.1 c.before.before.before.before.before.before.before.before.before.before.before.before.before.before.requires.1.1) c.before.before.before.before.before.before.before.before.before.loop-test.true)
 
 run-codes-sub-run-codes : (t : ℕ) → run-codes-lts.Need-overflow-sub-run-codes (run-codes-calls t) (run-codes-at t) run-codes.Post run-codes-Inv-loop run-codes-μ-loop
 run-codes-sub-run-codes t c = omega (arith, named_some (asked c.before.before.before.before.before.before.before.before.before.before.before.before.loop.invariant.1 c.before.before.before.before.before.before.before.before.before.before.before.before.before.before.before.before.requires.1.1) c.before.before.before.before.before.before.before.before.before.before.before.loop-test.true (sym c.before.before.before.before.before.before.before.before.before.body_at.ensures.0 ∙ c.before.before.before.before.before.before.before.if3.true))
 
 run-codes-run-codes-requires : (t : ℕ) → run-codes-lts.Need-run-codes-requires (run-codes-calls t) (run-codes-at t) run-codes.Post run-codes-Inv-loop run-codes-μ-loop
-run-codes-run-codes-requires t c κs = let w = named-asks (asked c.before.before.before.before.before.before.before.before.before.before.before.before.before.loop.invariant.1 c.before.before.before.before.before.before.before.before.before.before.before.before.before.before.before.before.before.requires.1.1) c.before.before.before.before.before.before.before.before.before.before.before.before.loop-test.true (sym c.before.before.before.before.before.before.before.before.before.before.body_at.ensures.0 ∙ c.before.before.before.before.before.before.before.before.if3.true) c.before.before.span-at.ensures.0 in (omega (arith, c.before.before.before.before.before.before.before.before.before.before.before.before.before.before.before.before.before.requires.0, named_some (asked c.before.before.before.before.before.before.before.before.before.before.before.before.before.loop.invariant.1 c.before.before.before.before.before.before.before.before.before.before.before.before.before.before.before.before.before.requires.1.1) c.before.before.before.before.before.before.before.before.before.before.before.before.loop-test.true (sym c.before.before.before.before.before.before.before.before.before.before.body_at.ensures.0 ∙ c.before.before.before.before.before.before.before.before.if3.true)), (omega (arith, c.before.before.before.before.before.before.before.before.before.before.before.before.before.before.before.before.before.requires.1.0, named_some (asked c.before.before.before.before.before.before.before.before.before.before.before.before.before.loop.invariant.1 c.before.before.before.before.before.before.before.before.before.before.before.before.before.before.before.before.before.requires.1.1) c.before.before.before.before.before.before.before.before.before.before.before.before.loop-test.true (sym c.before.before.before.before.before.before.before.before.before.before.body_at.ensures.0 ∙ c.before.before.before.before.before.before.before.before.if3.true)), (c.before.before.before.before.before.before.before.before.before.before.before.before.before.before.before.before.before.requires.1.1.0, c.before.before.before.before.before.before.before.before.before.before.before.before.before.before.before.before.before.requires.1.1.1, c.before.before.before.before.before.before.before.before.before.before.before.before.before.before.before.before.before.requires.1.1.2, c.before.before.before.before.before.before.before.before.before.before.before.before.before.before.before.before.before.requires.1.1.3, w.0, w.1, w.2)))
+run-codes-run-codes-requires t c κs = let w = named_asks (asked c.before.before.before.before.before.before.before.before.before.before.before.before.before.loop.invariant.1 c.before.before.before.before.before.before.before.before.before.before.before.before.before.before.before.before.before.requires.1.1) c.before.before.before.before.before.before.before.before.before.before.before.before.loop-test.true (sym c.before.before.before.before.before.before.before.before.before.before.body_at.ensures.0 ∙ c.before.before.before.before.before.before.before.before.if3.true) c.before.before.span-at.ensures.0 in (omega (arith, c.before.before.before.before.before.before.before.before.before.before.before.before.before.before.before.before.before.requires.0, named_some (asked c.before.before.before.before.before.before.before.before.before.before.before.before.before.loop.invariant.1 c.before.before.before.before.before.before.before.before.before.before.before.before.before.before.before.before.before.requires.1.1) c.before.before.before.before.before.before.before.before.before.before.before.before.loop-test.true (sym c.before.before.before.before.before.before.before.before.before.before.body_at.ensures.0 ∙ c.before.before.before.before.before.before.before.before.if3.true)), (omega (arith, c.before.before.before.before.before.before.before.before.before.before.before.before.before.before.before.before.before.requires.1.0, named_some (asked c.before.before.before.before.before.before.before.before.before.before.before.before.before.loop.invariant.1 c.before.before.before.before.before.before.before.before.before.before.before.before.before.before.before.before.before.requires.1.1) c.before.before.before.before.before.before.before.before.before.before.before.before.loop-test.true (sym c.before.before.before.before.before.before.before.before.before.before.body_at.ensures.0 ∙ c.before.before.before.before.before.before.before.before.if3.true)), (c.before.before.before.before.before.before.before.before.before.before.before.before.before.before.before.before.before.requires.1.1.0, c.before.before.before.before.before.before.before.before.before.before.before.before.before.before.before.before.before.requires.1.1.1, c.before.before.before.before.before.before.before.before.before.before.before.before.before.before.before.before.before.requires.1.1.2, c.before.before.before.before.before.before.before.before.before.before.before.before.before.before.before.before.before.requires.1.1.3, w.0, w.1, w.2)))
 
 run-codes-loop-less-2 : (t : ℕ) → run-codes-lts.Need-loop-smaller-2 (run-codes-calls t) (run-codes-at t) run-codes.Post run-codes-Inv-loop run-codes-μ-loop
-run-codes-loop-less-2 t c = omega (arith, (named-room (asked c.before.before.before.before.before.before.before.before.before.before.before.before.before.before.before.before.loop.invariant.1 c.before.before.before.before.before.before.before.before.before.before.before.before.before.before.before.before.before.before.before.before.requires.1.1) c.before.before.before.before.before.before.before.before.before.before.before.before.before.before.before.loop-test.true (sym c.before.before.before.before.before.before.before.before.before.before.before.before.before.body_at.ensures.0 ∙ c.before.before.before.before.before.before.before.before.before.before.before.if3.true)).0, c.before.before.before.before.before.span-at.ensures.0, c.before.before.before.before.before.before.before.before.before.before.before.before.before.before.before.loop-test.true)
+run-codes-loop-less-2 t c = omega (arith, (named_room (asked c.before.before.before.before.before.before.before.before.before.before.before.before.before.before.before.before.loop.invariant.1 c.before.before.before.before.before.before.before.before.before.before.before.before.before.before.before.before.before.before.before.before.requires.1.1) c.before.before.before.before.before.before.before.before.before.before.before.before.before.before.before.loop-test.true (sym c.before.before.before.before.before.before.before.before.before.before.before.before.before.body_at.ensures.0 ∙ c.before.before.before.before.before.before.before.before.before.before.before.if3.true)).0, c.before.before.before.before.before.span-at.ensures.0, c.before.before.before.before.before.before.before.before.before.before.before.before.before.before.before.loop-test.true)
 
 run-codes-loop-again-2 : (t : ℕ) → run-codes-lts.Need-loop-preserved-2 (run-codes-calls t) (run-codes-at t) run-codes.Post run-codes-Inv-loop run-codes-μ-loop
-run-codes-loop-again-2 t c = (c.before.out3.given ∙ (c.before.before.before.before.before.before.before.out2.given ∙ c.before.before.before.before.before.before.before.before.before.before.before.before.before.before.before.before.loop.invariant.0), λ f given ts ks cs js a. inner-turn (c.before.before.before.before.before.before.before.before.before.before.before.before.before.before.before.before.loop.invariant.1 f given ts ks cs js a) c.before.before.before.before.before.before.before.before.before.before.before.before.before.before.before.loop-test.true (sym c.before.before.before.before.before.before.before.before.before.before.before.before.before.body_at.ensures.0 ∙ c.before.before.before.before.before.before.before.before.before.before.before.if3.true) c.before.before.before.before.before.before.before.before.before.before.body-at3.ensures.0 c.before.before.before.before.before.before.before.before.put-name.ensures c.before.before.before.before.before.span-at.ensures.0 c.before.before.run-codes.ensures)
+run-codes-loop-again-2 t c = (c.before.out3.given ∙ (c.before.before.before.before.before.before.before.out2.given ∙ c.before.before.before.before.before.before.before.before.before.before.before.before.before.before.before.before.loop.invariant.0), λ f given ts ks cs js a. inner_turn (c.before.before.before.before.before.before.before.before.before.before.before.before.before.before.before.before.loop.invariant.1 f given ts ks cs js a) c.before.before.before.before.before.before.before.before.before.before.before.before.before.before.before.loop-test.true (sym c.before.before.before.before.before.before.before.before.before.before.before.before.before.body_at.ensures.0 ∙ c.before.before.before.before.before.before.before.before.before.before.before.if3.true) c.before.before.before.before.before.before.before.before.before.before.body-at3.ensures.0 c.before.before.before.before.before.before.before.before.put-name.ensures c.before.before.before.before.before.span-at.ensures.0 c.before.before.run-codes.ensures)
 
 run-codes-body-at-requires-4 : (t : ℕ) → run-codes-lts.Need-body-at-requires-4 (run-codes-calls t) (run-codes-at t) run-codes.Post run-codes-Inv-loop run-codes-μ-loop
-run-codes-body-at-requires-4 t c κs = next-below (asked c.before.before.before.before.before.loop.invariant.1 c.before.before.before.before.before.before.before.before.before.requires.1.1) c.before.before.before.before.loop-test.true
+run-codes-body-at-requires-4 t c κs = next_below (asked c.before.before.before.before.before.loop.invariant.1 c.before.before.before.before.before.before.before.before.before.requires.1.1) c.before.before.before.before.loop-test.true
 
 run-codes-cast-high : (t : ℕ) → run-codes-lts.Need-overflow-cast-high (run-codes-calls t) (run-codes-at t) run-codes.Post run-codes-Inv-loop run-codes-μ-loop
-run-codes-cast-high t c = omega (arith, next-narrow (asked c.before.before.before.before.before.before.loop.invariant.1 c.before.before.before.before.before.before.before.before.before.before.requires.1.1) c.before.before.before.before.before.loop-test.true c.body-at4.ensures.0 (omega arith) (next-two (asked c.before.before.before.before.before.before.loop.invariant.1 c.before.before.before.before.before.before.before.before.before.before.requires.1.1) c.before.before.before.before.before.loop-test.true))
+run-codes-cast-high t c = omega (arith, next_narrow (asked c.before.before.before.before.before.before.loop.invariant.1 c.before.before.before.before.before.before.before.before.before.before.requires.1.1) c.before.before.before.before.before.loop-test.true c.body-at4.ensures.0 (omega arith) (next_two (asked c.before.before.before.before.before.before.loop.invariant.1 c.before.before.before.before.before.before.before.before.before.before.requires.1.1) c.before.before.before.before.before.loop-test.true))
 
 run-codes-body-at-requires-5 : (t : ℕ) → run-codes-lts.Need-body-at-requires-5 (run-codes-calls t) (run-codes-at t) run-codes.Post run-codes-Inv-loop run-codes-μ-loop
-run-codes-body-at-requires-5 t c κs = token-room (asked c.before.before.before.before.before.before.loop.invariant.1 c.before.before.before.before.before.before.before.before.before.before.requires.1.1) c.before.before.before.before.before.loop-test.true (λ z. c.before.if3.false (c.before.before.before.body_at.ensures.0 ∙ z)) (omega (arith, c.before.before.if2.false, c.before.before.before.body_at.ensures.0))
+run-codes-body-at-requires-5 t c κs = token_room (asked c.before.before.before.before.before.before.loop.invariant.1 c.before.before.before.before.before.before.before.before.before.before.requires.1.1) c.before.before.before.before.before.loop-test.true (λ z. c.before.if3.false (c.before.before.before.body_at.ensures.0 ∙ z)) (omega (arith, c.before.before.if2.false, c.before.before.before.body_at.ensures.0))
 
 run-codes-cast-low : (t : ℕ) → run-codes-lts.Need-overflow-cast-low (run-codes-calls t) (run-codes-at t) run-codes.Post run-codes-Inv-loop run-codes-μ-loop
-run-codes-cast-low t c = omega (arith, next-narrow (asked c.before.before.before.before.before.before.before.loop.invariant.1 c.before.before.before.before.before.before.before.before.before.before.before.requires.1.1) c.before.before.before.before.before.before.loop-test.true c.body-at5.ensures.0 (omega arith) (token-three (asked c.before.before.before.before.before.before.before.loop.invariant.1 c.before.before.before.before.before.before.before.before.before.before.before.requires.1.1) c.before.before.before.before.before.before.loop-test.true (λ z. c.before.before.if3.false (c.before.before.before.before.body_at.ensures.0 ∙ z)) (omega (arith, c.before.before.before.if2.false, c.before.before.before.before.body_at.ensures.0))))
+run-codes-cast-low t c = omega (arith, next_narrow (asked c.before.before.before.before.before.before.before.loop.invariant.1 c.before.before.before.before.before.before.before.before.before.before.before.requires.1.1) c.before.before.before.before.before.before.loop-test.true c.body-at5.ensures.0 (omega arith) (token_three (asked c.before.before.before.before.before.before.before.loop.invariant.1 c.before.before.before.before.before.before.before.before.before.before.before.requires.1.1) c.before.before.before.before.before.before.loop-test.true (λ z. c.before.before.if3.false (c.before.before.before.before.body_at.ensures.0 ∙ z)) (omega (arith, c.before.before.before.if2.false, c.before.before.before.before.body_at.ensures.0))))
 
 run-codes-put-token-requires : (t : ℕ) → run-codes-lts.Need-put-token-requires (run-codes-calls t) (run-codes-at t) run-codes.Post run-codes-Inv-loop run-codes-μ-loop
 run-codes-put-token-requires t c κs = c.before.before.before.before.before.before.if1.false
 
 run-codes-loop-again-3 : (t : ℕ) → run-codes-lts.Need-loop-preserved-3 (run-codes-calls t) (run-codes-at t) run-codes.Post run-codes-Inv-loop run-codes-μ-loop
-run-codes-loop-again-3 t c = (c.before.out4.given ∙ c.before.before.before.before.before.before.before.before.before.before.before.loop.invariant.0, λ f given ts ks cs js a. token-turn (c.before.before.before.before.before.before.before.before.before.before.before.loop.invariant.1 f given ts ks cs js a) c.before.before.before.before.before.before.before.before.before.before.loop-test.true (λ z. c.before.before.before.before.before.before.if3.false (c.before.before.before.before.before.before.before.before.body_at.ensures.0 ∙ z)) (omega (arith, c.before.before.before.before.before.before.before.if2.false, c.before.before.before.before.before.before.before.before.body_at.ensures.0)) c.before.before.before.before.before.body-at4.ensures.0 c.before.before.before.before.body-at5.ensures.0 c.before.before.put-token.ensures)
+run-codes-loop-again-3 t c = (c.before.out4.given ∙ c.before.before.before.before.before.before.before.before.before.before.before.loop.invariant.0, λ f given ts ks cs js a. token_turn (c.before.before.before.before.before.before.before.before.before.before.before.loop.invariant.1 f given ts ks cs js a) c.before.before.before.before.before.before.before.before.before.before.loop-test.true (λ z. c.before.before.before.before.before.before.if3.false (c.before.before.before.before.before.before.before.before.body_at.ensures.0 ∙ z)) (omega (arith, c.before.before.before.before.before.before.before.if2.false, c.before.before.before.before.before.before.before.before.body_at.ensures.0)) c.before.before.before.before.before.body-at4.ensures.0 c.before.before.before.before.body-at5.ensures.0 c.before.before.put-token.ensures)
 
 run-codes-returns-2 : (t : ℕ) → run-codes-lts.Need-returns-2 (run-codes-calls t) (run-codes-at t) run-codes.Post run-codes-Inv-loop run-codes-μ-loop
 run-codes-returns-2 t c = λ f given ts ks cs js a. going_end (c.before.loop.invariant.1 f given ts ks cs js a) c.loop-test.false
@@ -362,13 +362,13 @@ run-node-run-clause-requires : (t : ℕ) → run-node-lts.Need-run-clause-requir
 run-node-run-clause-requires t c κs = let g = (run-node-going t c.before.before c.before.before.before.before.before.before.before.before.before.before.requires.1.3.0 c.before.before.before.before.before.before.before.before.before.before.requires.1.3.1 c.before.before.before.before.before.before.before.before.before.before.requires.1.3.2 c.before.before.before.before.before.before.before.before.before.before.requires.1.3.3) in (omega (arith, c.before.before.before.before.before.before.before.before.before.before.requires.0, node_some c.before.before.before.before.before.before.before.before.before.before.requires.1.3.3 (c.before.before.before.before.before.start-node.ensures c.before.before.before.before.before.before.before.before.before.before.requires.1.3.0 c.before.before.before.before.before.before.before.before.before.before.requires.1.3.1 c.before.before.before.before.before.before.before.before.before.before.requires.1.3.2 c.before.before.before.before.before.before.before.before.before.before.requires.1.3.3.there) (c.before.before.before.before.clause-end.ensures (c.before.before.before.before.before.start-node.ensures c.before.before.before.before.before.before.before.before.before.before.requires.1.3.0 c.before.before.before.before.before.before.before.before.before.before.requires.1.3.1 c.before.before.before.before.before.before.before.before.before.before.requires.1.3.2 c.before.before.before.before.before.before.before.before.before.before.requires.1.3.3.there).body (c.before.before.before.before.before.start-node.ensures c.before.before.before.before.before.before.before.before.before.before.requires.1.3.0 c.before.before.before.before.before.before.before.before.before.before.requires.1.3.1 c.before.before.before.before.before.before.before.before.before.before.requires.1.3.2 c.before.before.before.before.before.before.before.before.before.before.requires.1.3.3.there).clause)), (omega (arith, c.before.before.before.before.before.before.before.before.before.before.requires.1.3.3.whole, node_some c.before.before.before.before.before.before.before.before.before.before.requires.1.3.3 (c.before.before.before.before.before.start-node.ensures c.before.before.before.before.before.before.before.before.before.before.requires.1.3.0 c.before.before.before.before.before.before.before.before.before.before.requires.1.3.1 c.before.before.before.before.before.before.before.before.before.before.requires.1.3.2 c.before.before.before.before.before.before.before.before.before.before.requires.1.3.3.there) (c.before.before.before.before.clause-end.ensures (c.before.before.before.before.before.start-node.ensures c.before.before.before.before.before.before.before.before.before.before.requires.1.3.0 c.before.before.before.before.before.before.before.before.before.before.requires.1.3.1 c.before.before.before.before.before.before.before.before.before.before.requires.1.3.2 c.before.before.before.before.before.before.before.before.before.before.requires.1.3.3.there).body (c.before.before.before.before.before.start-node.ensures c.before.before.before.before.before.before.before.before.before.before.requires.1.3.0 c.before.before.before.before.before.before.before.before.before.before.requires.1.3.1 c.before.before.before.before.before.before.before.before.before.before.requires.1.3.2 c.before.before.before.before.before.before.before.before.before.before.requires.1.3.3.there).clause)), (c.before.before.before.before.before.before.before.before.before.before.requires.1.3.0, c.before.before.before.before.before.before.before.before.before.before.requires.1.3.1, (c.before.before.before.before.before.start-node.ensures c.before.before.before.before.before.before.before.before.before.before.requires.1.3.0 c.before.before.before.before.before.before.before.before.before.before.requires.1.3.1 c.before.before.before.before.before.before.before.before.before.before.requires.1.3.2 c.before.before.before.before.before.before.before.before.before.before.requires.1.3.3.there).operands, (c.before.before.before.before.before.start-node.ensures c.before.before.before.before.before.before.before.before.before.before.requires.1.3.0 c.before.before.before.before.before.before.before.before.before.before.requires.1.3.1 c.before.before.before.before.before.before.before.before.before.before.requires.1.3.2 c.before.before.before.before.before.before.before.before.before.before.requires.1.3.3.there).kinds, g.rest, g.kinds, g.asks)))
 
 run-node-last-end-requires : (t : ℕ) → run-node-lts.Need-last-end-requires (run-node-calls t) (run-node-at t) run-node.Post
-run-node-last-end-requires t c κs = (c.before.before.before.before.before.before.before.before.before.before.before.before.before.before.requires.1.3.0, c.before.before.before.before.before.before.before.before.before.before.before.before.before.before.requires.1.3.1, _, _, last-asks c.before.before.before.before.before.before.before.before.before.before.before.before.before.before.requires.1.3.3 (c.before.before.before.before.before.before.before.before.before.start-node.ensures c.before.before.before.before.before.before.before.before.before.before.before.before.before.before.requires.1.3.0 c.before.before.before.before.before.before.before.before.before.before.before.before.before.before.requires.1.3.1 c.before.before.before.before.before.before.before.before.before.before.before.before.before.before.requires.1.3.2 c.before.before.before.before.before.before.before.before.before.before.before.before.before.before.requires.1.3.3.there) (c.before.before.before.before.before.before.before.before.clause-end.ensures (c.before.before.before.before.before.before.before.before.before.start-node.ensures c.before.before.before.before.before.before.before.before.before.before.before.before.before.before.requires.1.3.0 c.before.before.before.before.before.before.before.before.before.before.before.before.before.before.requires.1.3.1 c.before.before.before.before.before.before.before.before.before.before.before.before.before.before.requires.1.3.2 c.before.before.before.before.before.before.before.before.before.before.before.before.before.before.requires.1.3.3.there).body (c.before.before.before.before.before.before.before.before.before.start-node.ensures c.before.before.before.before.before.before.before.before.before.before.before.before.before.before.requires.1.3.0 c.before.before.before.before.before.before.before.before.before.before.before.before.before.before.requires.1.3.1 c.before.before.before.before.before.before.before.before.before.before.before.before.before.before.requires.1.3.2 c.before.before.before.before.before.before.before.before.before.before.before.before.before.before.requires.1.3.3.there).clause) (run-node-going t c.before.before.before.before.before.before c.before.before.before.before.before.before.before.before.before.before.before.before.before.before.requires.1.3.0 c.before.before.before.before.before.before.before.before.before.before.before.before.before.before.requires.1.3.1 c.before.before.before.before.before.before.before.before.before.before.before.before.before.before.requires.1.3.2 c.before.before.before.before.before.before.before.before.before.before.before.before.before.before.requires.1.3.3) c.before.before.before.run-clause.ensures)
+run-node-last-end-requires t c κs = (c.before.before.before.before.before.before.before.before.before.before.before.before.before.before.requires.1.3.0, c.before.before.before.before.before.before.before.before.before.before.before.before.before.before.requires.1.3.1, _, _, last_asks c.before.before.before.before.before.before.before.before.before.before.before.before.before.before.requires.1.3.3 (c.before.before.before.before.before.before.before.before.before.start-node.ensures c.before.before.before.before.before.before.before.before.before.before.before.before.before.before.requires.1.3.0 c.before.before.before.before.before.before.before.before.before.before.before.before.before.before.requires.1.3.1 c.before.before.before.before.before.before.before.before.before.before.before.before.before.before.requires.1.3.2 c.before.before.before.before.before.before.before.before.before.before.before.before.before.before.requires.1.3.3.there) (c.before.before.before.before.before.before.before.before.clause-end.ensures (c.before.before.before.before.before.before.before.before.before.start-node.ensures c.before.before.before.before.before.before.before.before.before.before.before.before.before.before.requires.1.3.0 c.before.before.before.before.before.before.before.before.before.before.before.before.before.before.requires.1.3.1 c.before.before.before.before.before.before.before.before.before.before.before.before.before.before.requires.1.3.2 c.before.before.before.before.before.before.before.before.before.before.before.before.before.before.requires.1.3.3.there).body (c.before.before.before.before.before.before.before.before.before.start-node.ensures c.before.before.before.before.before.before.before.before.before.before.before.before.before.before.requires.1.3.0 c.before.before.before.before.before.before.before.before.before.before.before.before.before.before.requires.1.3.1 c.before.before.before.before.before.before.before.before.before.before.before.before.before.before.requires.1.3.2 c.before.before.before.before.before.before.before.before.before.before.before.before.before.before.requires.1.3.3.there).clause) (run-node-going t c.before.before.before.before.before.before c.before.before.before.before.before.before.before.before.before.before.before.before.before.before.requires.1.3.0 c.before.before.before.before.before.before.before.before.before.before.before.before.before.before.requires.1.3.1 c.before.before.before.before.before.before.before.before.before.before.before.before.before.before.requires.1.3.2 c.before.before.before.before.before.before.before.before.before.before.before.before.before.before.requires.1.3.3) c.before.before.before.run-clause.ensures)
 
 run-node-same-length : (t : ℕ) → run-node-lts.Need-same-length (run-node-calls t) (run-node-at t) run-node.Post
-run-node-same-length t c = wrote_long _ _ _ _ _ (node-wrote c.before.before.before.before.before.before.before.before.before.before.before.before.before.before.before.requires.1.3.3 (c.before.before.before.before.before.before.before.before.before.before.start-node.ensures c.before.before.before.before.before.before.before.before.before.before.before.before.before.before.before.requires.1.3.0 c.before.before.before.before.before.before.before.before.before.before.before.before.before.before.before.requires.1.3.1 c.before.before.before.before.before.before.before.before.before.before.before.before.before.before.before.requires.1.3.2 c.before.before.before.before.before.before.before.before.before.before.before.before.before.before.before.requires.1.3.3.there) (c.before.before.before.before.before.before.before.before.before.clause-end.ensures (c.before.before.before.before.before.before.before.before.before.before.start-node.ensures c.before.before.before.before.before.before.before.before.before.before.before.before.before.before.before.requires.1.3.0 c.before.before.before.before.before.before.before.before.before.before.before.before.before.before.before.requires.1.3.1 c.before.before.before.before.before.before.before.before.before.before.before.before.before.before.before.requires.1.3.2 c.before.before.before.before.before.before.before.before.before.before.before.before.before.before.before.requires.1.3.3.there).body (c.before.before.before.before.before.before.before.before.before.before.start-node.ensures c.before.before.before.before.before.before.before.before.before.before.before.before.before.before.before.requires.1.3.0 c.before.before.before.before.before.before.before.before.before.before.before.before.before.before.before.requires.1.3.1 c.before.before.before.before.before.before.before.before.before.before.before.before.before.before.before.requires.1.3.2 c.before.before.before.before.before.before.before.before.before.before.before.before.before.before.before.requires.1.3.3.there).clause) (run-node-going t c.before.before.before.before.before.before.before c.before.before.before.before.before.before.before.before.before.before.before.before.before.before.before.requires.1.3.0 c.before.before.before.before.before.before.before.before.before.before.before.before.before.before.before.requires.1.3.1 c.before.before.before.before.before.before.before.before.before.before.before.before.before.before.before.requires.1.3.2 c.before.before.before.before.before.before.before.before.before.before.before.before.before.before.before.requires.1.3.3) c.before.before.before.before.run-clause.ensures)
+run-node-same-length t c = wrote_long _ _ _ _ _ (node_wrote c.before.before.before.before.before.before.before.before.before.before.before.before.before.before.before.requires.1.3.3 (c.before.before.before.before.before.before.before.before.before.before.start-node.ensures c.before.before.before.before.before.before.before.before.before.before.before.before.before.before.before.requires.1.3.0 c.before.before.before.before.before.before.before.before.before.before.before.before.before.before.before.requires.1.3.1 c.before.before.before.before.before.before.before.before.before.before.before.before.before.before.before.requires.1.3.2 c.before.before.before.before.before.before.before.before.before.before.before.before.before.before.before.requires.1.3.3.there) (c.before.before.before.before.before.before.before.before.before.clause-end.ensures (c.before.before.before.before.before.before.before.before.before.before.start-node.ensures c.before.before.before.before.before.before.before.before.before.before.before.before.before.before.before.requires.1.3.0 c.before.before.before.before.before.before.before.before.before.before.before.before.before.before.before.requires.1.3.1 c.before.before.before.before.before.before.before.before.before.before.before.before.before.before.before.requires.1.3.2 c.before.before.before.before.before.before.before.before.before.before.before.before.before.before.before.requires.1.3.3.there).body (c.before.before.before.before.before.before.before.before.before.before.start-node.ensures c.before.before.before.before.before.before.before.before.before.before.before.before.before.before.before.requires.1.3.0 c.before.before.before.before.before.before.before.before.before.before.before.before.before.before.before.requires.1.3.1 c.before.before.before.before.before.before.before.before.before.before.before.before.before.before.before.requires.1.3.2 c.before.before.before.before.before.before.before.before.before.before.before.before.before.before.before.requires.1.3.3.there).clause) (run-node-going t c.before.before.before.before.before.before.before c.before.before.before.before.before.before.before.before.before.before.before.before.before.before.before.requires.1.3.0 c.before.before.before.before.before.before.before.before.before.before.before.before.before.before.before.requires.1.3.1 c.before.before.before.before.before.before.before.before.before.before.before.before.before.before.before.requires.1.3.2 c.before.before.before.before.before.before.before.before.before.before.before.before.before.before.before.requires.1.3.3) c.before.before.before.before.run-clause.ensures)
 
 run-node-returns : (t : ℕ) → run-node-lts.Need-returns (run-node-calls t) (run-node-at t) run-node.Post
-run-node-returns t c = λ f given u a. (node-wrote a (c.before.before.before.before.before.before.before.before.before.before.start-node.ensures f given u a.there) (c.before.before.before.before.before.before.before.before.before.clause-end.ensures (c.before.before.before.before.before.before.before.before.before.before.start-node.ensures f given u a.there).body (c.before.before.before.before.before.before.before.before.before.before.start-node.ensures f given u a.there).clause) (run-node-going t c.before.before.before.before.before.before.before f given u a) c.before.before.before.before.run-clause.ensures, ap (λ (e : ℕ). set c.before.before.before.before.before.before.before.before.before.before.before.before.before.before.before.args.above.now (c.before.before.before.before.before.before.before.before.before.before.before.before.before.before.before.args.j + 1) e) (node_end a (c.before.before.before.before.before.before.before.before.before.before.start-node.ensures f given u a.there) (c.before.before.before.before.before.before.before.before.before.clause-end.ensures (c.before.before.before.before.before.before.before.before.before.before.start-node.ensures f given u a.there).body (c.before.before.before.before.before.before.before.before.before.before.start-node.ensures f given u a.there).clause) (run-node-going t c.before.before.before.before.before.before.before f given u a) c.before.before.before.before.run-clause.ensures (c.last_end.ensures f given _ _ (last-asks a (c.before.before.before.before.before.before.before.before.before.before.start-node.ensures f given u a.there) (c.before.before.before.before.before.before.before.before.before.clause-end.ensures (c.before.before.before.before.before.before.before.before.before.before.start-node.ensures f given u a.there).body (c.before.before.before.before.before.before.before.before.before.before.start-node.ensures f given u a.there).clause) (run-node-going t c.before.before.before.before.before.before.before f given u a) c.before.before.before.before.run-clause.ensures))))
+run-node-returns t c = λ f given u a. (node_wrote a (c.before.before.before.before.before.before.before.before.before.before.start-node.ensures f given u a.there) (c.before.before.before.before.before.before.before.before.before.clause-end.ensures (c.before.before.before.before.before.before.before.before.before.before.start-node.ensures f given u a.there).body (c.before.before.before.before.before.before.before.before.before.before.start-node.ensures f given u a.there).clause) (run-node-going t c.before.before.before.before.before.before.before f given u a) c.before.before.before.before.run-clause.ensures, ap (λ (e : ℕ). set c.before.before.before.before.before.before.before.before.before.before.before.before.before.before.before.args.above.now (c.before.before.before.before.before.before.before.before.before.before.before.before.before.before.before.args.j + 1) e) (node_end a (c.before.before.before.before.before.before.before.before.before.before.start-node.ensures f given u a.there) (c.before.before.before.before.before.before.before.before.before.clause-end.ensures (c.before.before.before.before.before.before.before.before.before.before.start-node.ensures f given u a.there).body (c.before.before.before.before.before.before.before.before.before.before.start-node.ensures f given u a.there).clause) (run-node-going t c.before.before.before.before.before.before.before f given u a) c.before.before.before.before.run-clause.ensures (c.last_end.ensures f given _ _ (last_asks a (c.before.before.before.before.before.before.before.before.before.before.start-node.ensures f given u a.there) (c.before.before.before.before.before.before.before.before.before.clause-end.ensures (c.before.before.before.before.before.before.before.before.before.before.start-node.ensures f given u a.there).body (c.before.before.before.before.before.before.before.before.before.before.start-node.ensures f given u a.there).clause) (run-node-going t c.before.before.before.before.before.before.before f given u a) c.before.before.before.before.run-clause.ensures))))
 
 run-use-add-source-at : (t : ℕ) → run-use-lts.Need-overflow-add-source-at (run-use-calls t) (run-use-at t) run-use.Post
 run-use-add-source-at t c = omega (arith, (found_place c.before.before.before.before.requires.1.1.4).1)
@@ -383,13 +383,13 @@ run-use-put-argument-requires : (t : ℕ) → run-use-lts.Need-put-argument-requ
 run-use-put-argument-requires t c κs = (leaf_room c.before.before.before.before.before.before.before.before.before.requires.1.1.4 c.before.before.before.before.source-at.ensures.0 (sym c.before.before.before.is_IsLeaf.ensures ∙ c.before.before.if1.true), c.before.before.before.before.before.before.before.before.before.requires.1.1.4.asks.room, leaf_low c.before.before.before.before.before.before.before.before.before.requires.1.1.4 c.before.before.before.before.source-at.ensures.0 (sym c.before.before.before.is_IsLeaf.ensures ∙ c.before.before.if1.true), (found_place c.before.before.before.before.before.before.before.before.before.requires.1.1.4).0, c.before.before.before.before.before.before.before.before.before.requires.1.0)
 
 run-use-returns : (t : ℕ) → run-use-lts.Need-returns (run-use-calls t) (run-use-at t) run-use.Post
-run-use-returns t c = λ f given ts ks a. leaf-gives a c.before.before.before.before.before.before.before.source-at.ensures.0 (sym c.before.before.before.before.before.before.is_IsLeaf.ensures ∙ c.before.before.before.before.before.if1.true) c.before.before.put-argument.ensures.0 c.before.before.put-argument.ensures.1
+run-use-returns t c = λ f given ts ks a. leaf_gives a c.before.before.before.before.before.before.before.source-at.ensures.0 (sym c.before.before.before.before.before.before.is_IsLeaf.ensures ∙ c.before.before.before.before.before.if1.true) c.before.before.put-argument.ensures.0 c.before.before.put-argument.ensures.1
 
 run-use-sub-run-node : (t : ℕ) → run-use-lts.Need-overflow-sub-run-node (run-use-calls t) (run-use-at t) run-use.Post
 run-use-sub-run-node t c = omega arith
 
 run-use-run-node-requires : (t : ℕ) → run-use-lts.Need-run-node-requires (run-use-calls t) (run-use-at t) run-use.Post
-run-use-run-node-requires t c κs = (omega (arith, c.before.before.before.before.before.before.before.before.before.requires.0, c.before.before.before.before.before.before.before.before.before.requires.1.1.4.asks.more), (c.before.before.before.before.before.before.before.before.before.requires.1.0, (found_place c.before.before.before.before.before.before.before.before.before.requires.1.1.4).0, c.before.before.before.before.before.before.before.before.before.requires.1.1.4.asks.room, (c.before.before.before.before.before.before.before.before.before.requires.1.1.0, c.before.before.before.before.before.before.before.before.before.requires.1.1.1, _, found-asks c.before.before.before.before.before.before.before.before.before.requires.1.1.4 c.before.before.before.before.source-at.ensures.0 (sym c.before.before.before.is_IsLeaf.ensures ∙ c.before.before.if1.false))))
+run-use-run-node-requires t c κs = (omega (arith, c.before.before.before.before.before.before.before.before.before.requires.0, c.before.before.before.before.before.before.before.before.before.requires.1.1.4.asks.more), (c.before.before.before.before.before.before.before.before.before.requires.1.0, (found_place c.before.before.before.before.before.before.before.before.before.requires.1.1.4).0, c.before.before.before.before.before.before.before.before.before.requires.1.1.4.asks.room, (c.before.before.before.before.before.before.before.before.before.requires.1.1.0, c.before.before.before.before.before.before.before.before.before.requires.1.1.1, _, found_asks c.before.before.before.before.before.before.before.before.before.requires.1.1.4 c.before.before.before.before.source-at.ensures.0 (sym c.before.before.before.is_IsLeaf.ensures ∙ c.before.before.if1.false))))
 
 run-use-returns-2 : (t : ℕ) → run-use-lts.Need-returns-2 (run-use-calls t) (run-use-at t) run-use.Post
 run-use-returns-2 t c = λ f given ts ks a. found_gives a c.before.before.before.before.before.before.before.source-at.ensures.0 (sym c.before.before.before.before.before.before.is_IsLeaf.ensures ∙ c.before.before.before.before.before.if1.false) c.before.before.run-node.ensures

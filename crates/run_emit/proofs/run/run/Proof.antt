@@ -1,6 +1,6 @@
 use mathlib.Core.Path.{sym, ◌∙◌}
 use native.Mathlib.Omega.{arith}
-use Rattle.run_emit.proofs.Rows.{root_use, term_below, term-room, term-low, term-leaf, term_asks, term_gives}
+use Rattle.run_emit.proofs.Rows.{root_use, term_below, term_room, term_low, term_leaf, term_asks, term_gives}
 use borrow.Author.Rules.{rules}
 use Rattle.run_emit.proofs.run.run.Statement.{statement}
 use Rattle.run_emit.proofs.run.run.Tie as tie
@@ -14,10 +14,10 @@ is-leaf-requires : tie.Need-is-leaf-requires
 is-leaf-requires c κs = term_below c.before.before.before.requires.1.3
 
 put-argument-requires : tie.Need-put-argument-requires
-put-argument-requires c κs = (term-room c.before.before.before.before.before.before.before.requires.1.3 (sym c.before.before.before.is_IsLeaf.ensures ∙ c.before.before.if1.true), root_use c.before.before.before.before.before.before.before.args.table.now c.before.before.before.before.before.before.before.args.number, term-low c.before.before.before.before.before.before.before.requires.1.3 (sym c.before.before.before.is_IsLeaf.ensures ∙ c.before.before.if1.true), omega arith, c.before.before.before.before.before.before.before.requires.0)
+put-argument-requires c κs = (term_room c.before.before.before.before.before.before.before.requires.1.3 (sym c.before.before.before.is_IsLeaf.ensures ∙ c.before.before.if1.true), root_use c.before.before.before.before.before.before.before.args.table.now c.before.before.before.before.before.before.before.args.number, term_low c.before.before.before.before.before.before.before.requires.1.3 (sym c.before.before.before.is_IsLeaf.ensures ∙ c.before.before.if1.true), omega arith, c.before.before.before.before.before.before.before.requires.0)
 
 returns : tie.Need-returns
-returns c = λ f given u a. term-leaf a (sym c.before.before.before.before.before.before.is_IsLeaf.ensures ∙ c.before.before.before.before.before.if1.true) c.before.before.put-argument.ensures.0
+returns c = λ f given u a. term_leaf a (sym c.before.before.before.before.before.before.is_IsLeaf.ensures ∙ c.before.before.before.before.before.if1.true) c.before.before.put-argument.ensures.0
 
 run-node-requires : tie.Need-run-node-requires
 run-node-requires c κs = (c.before.before.before.before.before.before.before.requires.0, omega arith, root_use c.before.before.before.before.before.before.before.args.table.now c.before.before.before.before.before.before.before.args.number, (c.before.before.before.before.before.before.before.requires.1.0, c.before.before.before.before.before.before.before.requires.1.1, c.before.before.before.before.before.before.before.requires.1.2, term_asks c.before.before.before.before.before.before.before.requires.1.3 (sym c.before.before.before.is_IsLeaf.ensures ∙ c.before.before.if1.false)))

@@ -1,5 +1,5 @@
 use native.Mathlib.Omega.{arith}
-use Rattle.run_emit.proofs.Rows.{name_inside, numbered_asks, started-zero, started-other}
+use Rattle.run_emit.proofs.Rows.{name_inside, numbered_asks, started_zero, started_other}
 use borrow.Author.Rules.{rules}
 use Rattle.run_emit.proofs.run.start_node.Statement.{statement}
 use Rattle.run_emit.proofs.run.start_node.Tie as tie
@@ -20,7 +20,7 @@ number-at-requires : tie.Need-number-at-requires
 number-at-requires c κs = c.before.before.before.before.before.requires.1
 
 returns : tie.Need-returns
-returns c = λ f given u a. started-zero a c.before.before.before.before.before.before.sign-length.ensures.0 c.before.before.before.before.to-usize.ensures.0 c.before.before.before.before.to-usize.ensures.1 c.before.before.before.index_at.ensures.0 c.before.before.before.before.before.before.before.before.requires.0 c.before.before.number-at.ensures c.before.if1.true c.clause-at.ensures.0
+returns c = λ f given u a. started_zero a c.before.before.before.before.before.before.sign-length.ensures.0 c.before.before.before.before.to-usize.ensures.0 c.before.before.before.before.to-usize.ensures.1 c.before.before.before.index_at.ensures.0 c.before.before.before.before.before.before.before.before.requires.0 c.before.before.number-at.ensures c.before.if1.true c.clause-at.ensures.0
 
 rank-at-requires : tie.Need-rank-at-requires
 rank-at-requires c κs = c.before.before.before.before.before.before.before.requires.2.3.term.kind
@@ -29,7 +29,7 @@ numbered-start-requires : tie.Need-numbered-start-requires
 numbered-start-requires c κs = (c.before.before.before.before.before.before.before.before.requires.2.3.term.kind, c.before.before.before.before.to-usize.ensures.1, numbered_asks c.before.before.before.before.before.before.before.before.requires.2.3 c.before.before.before.before.before.before.sign-length.ensures.0 c.before.before.before.before.to-usize.ensures.0 c.before.before.before.before.to-usize.ensures.1 c.before.before.number-at.ensures c.before.if1.false)
 
 returns-2 : tie.Need-returns-2
-returns-2 c = λ f given u a. started-other a c.before.before.before.before.before.before.before.sign-length.ensures.0 c.before.before.before.before.before.to-usize.ensures.0 c.before.before.before.before.before.to-usize.ensures.1 c.before.before.before.before.index_at.ensures.0 c.before.before.before.before.before.before.before.before.before.requires.0 c.before.before.before.number-at.ensures c.numbered-start.ensures
+returns-2 c = λ f given u a. started_other a c.before.before.before.before.before.before.before.sign-length.ensures.0 c.before.before.before.before.before.to-usize.ensures.0 c.before.before.before.before.before.to-usize.ensures.1 c.before.before.before.before.index_at.ensures.0 c.before.before.before.before.before.before.before.before.before.requires.0 c.before.before.before.number-at.ensures c.numbered-start.ensures
 
 pub start-node-spec : {M : Type 1} → statement M
 start-node-spec =

@@ -2,7 +2,7 @@ use Prim.Native.Nat.{◌+◌, ◌-◌, ◌*◌}
 use mathlib.Core.Path.{◌≡◌, refl}
 use native.Mathlib.Omega.{arith}
 use lib.ListN.{length}
-use Rattle.run_emit.proofs.Skips.{Holds, name_some, set_long, asked_in, started, turn_done, turn_popped, popped_in, depth_in, turn-row, turn-to, turn-kind, turn-leaf-in, turn-leaf, turn-name-in, turn-sign-in, turn-place, turn_end, turn-none, turn-room, turn-replaced, turn-pushed}
+use Rattle.run_emit.proofs.Skips.{Holds, name_some, set_long, asked_in, started, turn_done, turn_popped, popped_in, depth_in, turn_row, turn_to, turn_kind, turn_leaf_in, turn_leaf, turn_name_in, turn_sign_in, turn_place, turn_end, turn_none, turn_room, turn_replaced, turn_pushed}
 use Rattle.run_emit.proofs.skip.skip.Statement.{statement}
 use Rattle.run_emit.proofs.skip.skip.Tie as tie
 use Rattle.run_emit.proofs.skip.skip.Reads as reads
@@ -55,118 +55,118 @@ loop-again : tie.Need-loop-preserved invariant-loop decreases-loop
 loop-again c = (c.before.before.loop.invariant.0, c.before.before.loop.invariant.1, turn_popped c.before.before.before.before.requires c.before.before.loop.invariant.2 c.before.if1.true c.if2.false)
 
 source-at-requires : tie.Need-source-at-requires invariant-loop decreases-loop
-source-at-requires c κs = let r = turn-row c.before.before.before.requires c.before.loop.invariant.2 c.if1.false in omega (arith, r.0, r.1)
+source-at-requires c κs = let r = turn_row c.before.before.before.requires c.before.loop.invariant.2 c.if1.false in omega (arith, r.0, r.1)
 
 add-q : tie.Need-overflow-add-q invariant-loop decreases-loop
-add-q c = let r = turn-row c.before.before.before.before.requires c.before.before.loop.invariant.2 c.before.if1.false in omega (arith, r.0, r.1)
+add-q c = let r = turn_row c.before.before.before.before.requires c.before.before.loop.invariant.2 c.before.if1.false in omega (arith, r.0, r.1)
 
 is-leaf-requires : tie.Need-is-leaf-requires invariant-loop decreases-loop
-is-leaf-requires c κs = (turn-kind c.before.before.before.before.requires c.before.before.loop.invariant.2 c.before.if1.false c.source-at.ensures.0, turn-to c.before.before.before.before.requires c.before.before.loop.invariant.2 c.before.if1.false)
+is-leaf-requires c κs = (turn_kind c.before.before.before.before.requires c.before.before.loop.invariant.2 c.before.if1.false c.source-at.ensures.0, turn_to c.before.before.before.before.requires c.before.before.loop.invariant.2 c.before.if1.false)
 
 leaf-length-requires : tie.Need-leaf-length-requires invariant-loop decreases-loop
-leaf-length-requires c κs = turn-to c.before.before.before.before.before.before.requires c.before.before.before.before.loop.invariant.2 c.before.before.before.if1.false
+leaf-length-requires c κs = turn_to c.before.before.before.before.before.before.requires c.before.before.before.before.loop.invariant.2 c.before.before.before.if1.false
 
 add-to : tie.Need-overflow-add-to invariant-loop decreases-loop
-add-to c = omega (arith, turn-leaf-in c.before.before.before.before.before.before.before.requires c.before.before.before.before.before.loop.invariant.2 c.before.before.before.before.if1.false c.before.before.before.source-at.ensures.0 c.before.before.is_IsLeaf.ensures c.before.if3.true c.leaf-length.ensures.0, c.before.before.before.before.before.before.before.well-formed.1.1.0.1)
+add-to c = omega (arith, turn_leaf_in c.before.before.before.before.before.before.before.requires c.before.before.before.before.before.loop.invariant.2 c.before.before.before.before.if1.false c.before.before.before.source-at.ensures.0 c.before.before.is_IsLeaf.ensures c.before.if3.true c.leaf-length.ensures.0, c.before.before.before.before.before.before.before.well-formed.1.1.0.1)
 
 loop-less-2 : tie.Need-loop-smaller-2 invariant-loop decreases-loop
-loop-less-2 c = omega (arith, turn-leaf-in c.before.before.before.before.before.before.before.requires c.before.before.before.before.before.loop.invariant.2 c.before.before.before.before.if1.false c.before.before.before.source-at.ensures.0 c.before.before.is_IsLeaf.ensures c.before.if3.true c.leaf-length.ensures.0, c.leaf-length.ensures.1)
+loop-less-2 c = omega (arith, turn_leaf_in c.before.before.before.before.before.before.before.requires c.before.before.before.before.before.loop.invariant.2 c.before.before.before.before.if1.false c.before.before.before.source-at.ensures.0 c.before.before.is_IsLeaf.ensures c.before.if3.true c.leaf-length.ensures.0, c.leaf-length.ensures.1)
 
 loop-again-2 : tie.Need-loop-preserved-2 invariant-loop decreases-loop
-loop-again-2 c = (c.before.before.before.before.before.loop.invariant.0, c.before.before.before.before.before.loop.invariant.1, turn-leaf c.before.before.before.before.before.before.before.requires c.before.before.before.before.before.loop.invariant.2 c.before.before.before.before.if1.false c.before.before.before.source-at.ensures.0 c.before.before.is_IsLeaf.ensures c.before.if3.true c.leaf-length.ensures.0)
+loop-again-2 c = (c.before.before.before.before.before.loop.invariant.0, c.before.before.before.before.before.loop.invariant.1, turn_leaf c.before.before.before.before.before.before.before.requires c.before.before.before.before.before.loop.invariant.2 c.before.before.before.before.if1.false c.before.before.before.source-at.ensures.0 c.before.before.is_IsLeaf.ensures c.before.if3.true c.leaf-length.ensures.0)
 
 sign-length-requires : tie.Need-sign-length-requires invariant-loop decreases-loop
 sign-length-requires c κs = tt
 
 add-name : tie.Need-overflow-add-name invariant-loop decreases-loop
-add-name c = omega (arith, turn-sign-in c.before.before.before.before.before.before.before.requires c.before.before.before.before.before.loop.invariant.2 c.before.before.before.before.if1.false c.before.before.before.source-at.ensures.0 c.before.before.is_IsLeaf.ensures c.before.if3.false c.sign-length.ensures.0, c.before.before.before.before.before.before.before.well-formed.1.1.0.1)
+add-name c = omega (arith, turn_sign_in c.before.before.before.before.before.before.before.requires c.before.before.before.before.before.loop.invariant.2 c.before.before.before.before.if1.false c.before.before.before.source-at.ensures.0 c.before.before.is_IsLeaf.ensures c.before.if3.false c.sign-length.ensures.0, c.before.before.before.before.before.before.before.well-formed.1.1.0.1)
 
 shared-slice-read-name : tie.Need-shared-slice-read-name invariant-loop decreases-loop
-shared-slice-read-name c = turn-sign-in c.before.before.before.before.before.before.before.before.requires c.before.before.before.before.before.before.loop.invariant.2 c.before.before.before.before.before.if1.false c.before.before.before.before.source-at.ensures.0 c.before.before.before.is_IsLeaf.ensures c.before.before.if3.false c.before.sign-length.ensures.0
+shared-slice-read-name c = turn_sign_in c.before.before.before.before.before.before.before.before.requires c.before.before.before.before.before.before.loop.invariant.2 c.before.before.before.before.before.if1.false c.before.before.before.before.source-at.ensures.0 c.before.before.before.is_IsLeaf.ensures c.before.before.if3.false c.before.sign-length.ensures.0
 
 cast-name : tie.Need-overflow-cast-name invariant-loop decreases-loop
 cast-name c = omega (arith, c.before.before.before.before.before.before.before.shared-slice-known.given (c.before.before.before.before.before.before.loop.to + c.before.sign-length.result))
 
 mul-index-at : tie.Need-overflow-mul-index-at invariant-loop decreases-loop
-mul-index-at c = omega (arith, turn-kind c.before.before.before.before.before.before.before.before.requires c.before.before.before.before.before.before.loop.invariant.2 c.before.before.before.before.before.if1.false c.before.before.before.before.source-at.ensures.0)
+mul-index-at c = omega (arith, turn_kind c.before.before.before.before.before.before.before.before.requires c.before.before.before.before.before.before.loop.invariant.2 c.before.before.before.before.before.if1.false c.before.before.before.before.source-at.ensures.0)
 
 add-index-at : tie.Need-overflow-add-index-at invariant-loop decreases-loop
-add-index-at c = omega (arith, turn-kind c.before.before.before.before.before.before.before.before.requires c.before.before.before.before.before.before.loop.invariant.2 c.before.before.before.before.before.if1.false c.before.before.before.before.source-at.ensures.0, c.before.before.before.before.before.before.before.shared-slice-known.given (c.before.before.before.before.before.before.loop.to + c.before.sign-length.result))
+add-index-at c = omega (arith, turn_kind c.before.before.before.before.before.before.before.before.requires c.before.before.before.before.before.before.loop.invariant.2 c.before.before.before.before.before.if1.false c.before.before.before.before.source-at.ensures.0, c.before.before.before.before.before.before.before.shared-slice-known.given (c.before.before.before.before.before.before.loop.to + c.before.sign-length.result))
 
 add-index-at-2 : tie.Need-overflow-add-index-at-2 invariant-loop decreases-loop
-add-index-at-2 c = omega (arith, turn-kind c.before.before.before.before.before.before.before.before.requires c.before.before.before.before.before.before.loop.invariant.2 c.before.before.before.before.before.if1.false c.before.before.before.before.source-at.ensures.0, c.before.before.before.before.before.before.before.shared-slice-known.given (c.before.before.before.before.before.before.loop.to + c.before.sign-length.result))
+add-index-at-2 c = omega (arith, turn_kind c.before.before.before.before.before.before.before.before.requires c.before.before.before.before.before.before.loop.invariant.2 c.before.before.before.before.before.if1.false c.before.before.before.before.source-at.ensures.0, c.before.before.before.before.before.before.before.shared-slice-known.given (c.before.before.before.before.before.before.loop.to + c.before.sign-length.result))
 
 index-at-requires : tie.Need-index-at-requires invariant-loop decreases-loop
-index-at-requires c κs = omega (arith, turn-kind c.before.before.before.before.before.before.before.before.requires c.before.before.before.before.before.before.loop.invariant.2 c.before.before.before.before.before.if1.false c.before.before.before.before.source-at.ensures.0, c.before.before.before.before.before.before.before.shared-slice-known.given (c.before.before.before.before.before.before.loop.to + c.before.sign-length.result))
+index-at-requires c κs = omega (arith, turn_kind c.before.before.before.before.before.before.before.before.requires c.before.before.before.before.before.before.loop.invariant.2 c.before.before.before.before.before.if1.false c.before.before.before.before.source-at.ensures.0, c.before.before.before.before.before.before.before.shared-slice-known.given (c.before.before.before.before.before.before.loop.to + c.before.sign-length.result))
 
 name-length-requires : tie.Need-name-length-requires invariant-loop decreases-loop
 name-length-requires c κs = tt
 
 add-to-2 : tie.Need-overflow-add-to-2 invariant-loop decreases-loop
-add-to-2 c = omega (arith, turn-name-in c.before.before.before.before.before.before.before.before.before.before.requires c.before.before.before.before.before.before.before.before.loop.invariant.2 c.before.before.before.before.before.before.before.if1.false c.before.before.before.before.before.before.source-at.ensures.0 c.before.before.before.before.before.is_IsLeaf.ensures c.before.before.before.before.if3.false c.name-length.ensures.0, c.before.before.before.before.before.before.before.before.before.before.well-formed.1.1.0.1)
+add-to-2 c = omega (arith, turn_name_in c.before.before.before.before.before.before.before.before.before.before.requires c.before.before.before.before.before.before.before.before.loop.invariant.2 c.before.before.before.before.before.before.before.if1.false c.before.before.before.before.before.before.source-at.ensures.0 c.before.before.before.before.before.is_IsLeaf.ensures c.before.before.before.before.if3.false c.name-length.ensures.0, c.before.before.before.before.before.before.before.before.before.before.well-formed.1.1.0.1)
 
 add-source-at : tie.Need-overflow-add-source-at invariant-loop decreases-loop
-add-source-at c = omega (arith, turn-place c.before.before.before.before.before.before.before.before.before.before.requires c.before.before.before.before.before.before.before.before.loop.invariant.2 c.before.before.before.before.before.before.before.if1.false c.before.before.before.before.before.before.source-at.ensures.0 c.before.before.before.before.before.is_IsLeaf.ensures c.before.before.before.before.if3.false c.before.before.before.sign-length.ensures.0 (omega (arith, c.before.before.before.before.before.before.before.before.before.shared-slice-known.given (c.before.before.before.before.before.before.before.before.loop.to + c.before.before.before.sign-length.result))) c.before.index_at.ensures.0)
+add-source-at c = omega (arith, turn_place c.before.before.before.before.before.before.before.before.before.before.requires c.before.before.before.before.before.before.before.before.loop.invariant.2 c.before.before.before.before.before.before.before.if1.false c.before.before.before.before.before.before.source-at.ensures.0 c.before.before.before.before.before.is_IsLeaf.ensures c.before.before.before.before.if3.false c.before.before.before.sign-length.ensures.0 (omega (arith, c.before.before.before.before.before.before.before.before.before.shared-slice-known.given (c.before.before.before.before.before.before.before.before.loop.to + c.before.before.before.sign-length.result))) c.before.index_at.ensures.0)
 
 source-at-requires-2 : tie.Need-source-at-requires-2 invariant-loop decreases-loop
-source-at-requires-2 c κs = omega (arith, turn-place c.before.before.before.before.before.before.before.before.before.before.requires c.before.before.before.before.before.before.before.before.loop.invariant.2 c.before.before.before.before.before.before.before.if1.false c.before.before.before.before.before.before.source-at.ensures.0 c.before.before.before.before.before.is_IsLeaf.ensures c.before.before.before.before.if3.false c.before.before.before.sign-length.ensures.0 (omega (arith, c.before.before.before.before.before.before.before.before.before.shared-slice-known.given (c.before.before.before.before.before.before.before.before.loop.to + c.before.before.before.sign-length.result))) c.before.index_at.ensures.0)
+source-at-requires-2 c κs = omega (arith, turn_place c.before.before.before.before.before.before.before.before.before.before.requires c.before.before.before.before.before.before.before.before.loop.invariant.2 c.before.before.before.before.before.before.before.if1.false c.before.before.before.before.before.before.source-at.ensures.0 c.before.before.before.before.before.is_IsLeaf.ensures c.before.before.before.before.if3.false c.before.before.before.sign-length.ensures.0 (omega (arith, c.before.before.before.before.before.before.before.before.before.shared-slice-known.given (c.before.before.before.before.before.before.before.before.loop.to + c.before.before.before.sign-length.result))) c.before.index_at.ensures.0)
 
 add-q-2 : tie.Need-overflow-add-q-2 invariant-loop decreases-loop
-add-q-2 c = omega (arith, turn-place c.before.before.before.before.before.before.before.before.before.before.before.before.requires c.before.before.before.before.before.before.before.before.before.before.loop.invariant.2 c.before.before.before.before.before.before.before.before.before.if1.false c.before.before.before.before.before.before.before.before.source-at.ensures.0 c.before.before.before.before.before.before.before.is_IsLeaf.ensures c.before.before.before.before.before.before.if3.false c.before.before.before.before.before.sign-length.ensures.0 (omega (arith, c.before.before.before.before.before.before.before.before.before.before.before.shared-slice-known.given (c.before.before.before.before.before.before.before.before.before.before.loop.to + c.before.before.before.before.before.sign-length.result))) c.before.before.before.index_at.ensures.0)
+add-q-2 c = omega (arith, turn_place c.before.before.before.before.before.before.before.before.before.before.before.before.requires c.before.before.before.before.before.before.before.before.before.before.loop.invariant.2 c.before.before.before.before.before.before.before.before.before.if1.false c.before.before.before.before.before.before.before.before.source-at.ensures.0 c.before.before.before.before.before.before.before.is_IsLeaf.ensures c.before.before.before.before.before.before.if3.false c.before.before.before.before.before.sign-length.ensures.0 (omega (arith, c.before.before.before.before.before.before.before.before.before.before.before.shared-slice-known.given (c.before.before.before.before.before.before.before.before.before.before.loop.to + c.before.before.before.before.before.sign-length.result))) c.before.before.before.index_at.ensures.0)
 
 add-end-2 : tie.Need-overflow-add-end-2 invariant-loop decreases-loop
-add-end-2 c = omega (arith, turn-place c.before.before.before.before.before.before.before.before.before.before.before.before.requires c.before.before.before.before.before.before.before.before.before.before.loop.invariant.2 c.before.before.before.before.before.before.before.before.before.if1.false c.before.before.before.before.before.before.before.before.source-at.ensures.0 c.before.before.before.before.before.before.before.is_IsLeaf.ensures c.before.before.before.before.before.before.if3.false c.before.before.before.before.before.sign-length.ensures.0 (omega (arith, c.before.before.before.before.before.before.before.before.before.before.before.shared-slice-known.given (c.before.before.before.before.before.before.before.before.before.before.loop.to + c.before.before.before.before.before.sign-length.result))) c.before.before.before.index_at.ensures.0)
+add-end-2 c = omega (arith, turn_place c.before.before.before.before.before.before.before.before.before.before.before.before.requires c.before.before.before.before.before.before.before.before.before.before.loop.invariant.2 c.before.before.before.before.before.before.before.before.before.if1.false c.before.before.before.before.before.before.before.before.source-at.ensures.0 c.before.before.before.before.before.before.before.is_IsLeaf.ensures c.before.before.before.before.before.before.if3.false c.before.before.before.before.before.sign-length.ensures.0 (omega (arith, c.before.before.before.before.before.before.before.before.before.before.before.shared-slice-known.given (c.before.before.before.before.before.before.before.before.before.before.loop.to + c.before.before.before.before.before.sign-length.result))) c.before.before.before.index_at.ensures.0)
 
 add-end-3 : tie.Need-overflow-add-end-3 invariant-loop decreases-loop
 add-end-3 c = omega (arith, turn_end c.before.before.before.before.before.before.before.before.before.before.before.before.requires c.before.before.before.before.before.before.before.before.before.before.loop.invariant.2 c.before.before.before.before.before.before.before.before.before.if1.false c.before.before.before.before.before.before.before.before.source-at.ensures.0 c.before.before.before.before.before.before.before.is_IsLeaf.ensures c.before.before.before.before.before.before.if3.false c.before.before.before.before.before.sign-length.ensures.0 (omega (arith, c.before.before.before.before.before.before.before.before.before.before.before.shared-slice-known.given (c.before.before.before.before.before.before.before.before.before.before.loop.to + c.before.before.before.before.before.sign-length.result))) c.before.before.before.index_at.ensures.0 c.before.source-at2.ensures.0)
 
 loop-less-3 : tie.Need-loop-smaller-3 invariant-loop decreases-loop
-loop-less-3 c = omega (arith, turn-name-in c.before.before.before.before.before.before.before.before.before.before.before.before.requires c.before.before.before.before.before.before.before.before.before.before.loop.invariant.2 c.before.before.before.before.before.before.before.before.before.if1.false c.before.before.before.before.before.before.before.before.source-at.ensures.0 c.before.before.before.before.before.before.before.is_IsLeaf.ensures c.before.before.before.before.before.before.if3.false c.before.before.name-length.ensures.0, name_some c.before.before.before.before.before.before.before.before.before.before.before.before.args.syntax c.before.before.name-length.ensures.0)
+loop-less-3 c = omega (arith, turn_name_in c.before.before.before.before.before.before.before.before.before.before.before.before.requires c.before.before.before.before.before.before.before.before.before.before.loop.invariant.2 c.before.before.before.before.before.before.before.before.before.if1.false c.before.before.before.before.before.before.before.before.source-at.ensures.0 c.before.before.before.before.before.before.before.is_IsLeaf.ensures c.before.before.before.before.before.before.if3.false c.before.before.name-length.ensures.0, name_some c.before.before.before.before.before.before.before.before.before.before.before.before.args.syntax c.before.before.name-length.ensures.0)
 
 loop-again-3 : tie.Need-loop-preserved-3 invariant-loop decreases-loop
-loop-again-3 c = (c.before.before.before.before.before.before.before.before.before.before.loop.invariant.0, c.before.before.before.before.before.before.before.before.before.before.loop.invariant.1, turn-replaced c.before.before.before.before.before.before.before.before.before.before.before.before.requires c.before.before.before.before.before.before.before.before.before.before.loop.invariant.2 c.before.before.before.before.before.before.before.before.before.if1.false c.before.before.before.before.before.before.before.before.source-at.ensures.0 c.before.before.before.before.before.before.before.is_IsLeaf.ensures c.before.before.before.before.before.before.if3.false c.before.before.before.before.before.sign-length.ensures.0 (omega (arith, c.before.before.before.before.before.before.before.before.before.before.before.shared-slice-known.given (c.before.before.before.before.before.before.before.before.before.before.loop.to + c.before.before.before.before.before.sign-length.result))) c.before.before.before.index_at.ensures.0 c.before.source-at2.ensures.0 c.if4.true c.before.before.name-length.ensures.0)
+loop-again-3 c = (c.before.before.before.before.before.before.before.before.before.before.loop.invariant.0, c.before.before.before.before.before.before.before.before.before.before.loop.invariant.1, turn_replaced c.before.before.before.before.before.before.before.before.before.before.before.before.requires c.before.before.before.before.before.before.before.before.before.before.loop.invariant.2 c.before.before.before.before.before.before.before.before.before.if1.false c.before.before.before.before.before.before.before.before.source-at.ensures.0 c.before.before.before.before.before.before.before.is_IsLeaf.ensures c.before.before.before.before.before.before.if3.false c.before.before.before.before.before.sign-length.ensures.0 (omega (arith, c.before.before.before.before.before.before.before.before.before.before.before.shared-slice-known.given (c.before.before.before.before.before.before.before.before.before.before.loop.to + c.before.before.before.before.before.sign-length.result))) c.before.before.before.index_at.ensures.0 c.before.source-at2.ensures.0 c.if4.true c.before.before.name-length.ensures.0)
 
 cast-firsts : tie.Need-overflow-cast-firsts invariant-loop decreases-loop
-cast-firsts c = let r = turn-row c.before.before.before.before.before.before.before.before.before.before.before.before.before.requires c.before.before.before.before.before.before.before.before.before.before.before.loop.invariant.2 c.before.before.before.before.before.before.before.before.before.before.if1.false in omega (arith, r.0, r.1)
+cast-firsts c = let r = turn_row c.before.before.before.before.before.before.before.before.before.before.before.before.before.requires c.before.before.before.before.before.before.before.before.before.before.before.loop.invariant.2 c.before.before.before.before.before.before.before.before.before.before.if1.false in omega (arith, r.0, r.1)
 
 mul-firsts : tie.Need-overflow-mul-firsts invariant-loop decreases-loop
 mul-firsts c = omega (arith, depth_in c.before.before.before.before.before.before.before.before.before.before.before.before.before.requires c.before.before.before.before.before.before.before.before.before.before.before.loop.invariant.2)
 
 array-write-firsts : tie.Need-array-write-firsts invariant-loop decreases-loop
-array-write-firsts c = omega (arith, turn-room c.before.before.before.before.before.before.before.before.before.before.before.before.before.requires c.before.before.before.before.before.before.before.before.before.before.before.loop.invariant.2 c.before.before.before.before.before.before.before.before.before.before.if1.false c.before.before.before.before.before.before.before.before.before.source-at.ensures.0 c.before.before.before.before.before.before.before.before.is_IsLeaf.ensures c.before.before.before.before.before.before.before.if3.false c.before.before.before.before.before.before.sign-length.ensures.0 (omega (arith, c.before.before.before.before.before.before.before.before.before.before.before.before.shared-slice-known.given (c.before.before.before.before.before.before.before.before.before.before.before.loop.to + c.before.before.before.before.before.before.sign-length.result))) c.before.before.before.before.index_at.ensures.0 c.before.before.source-at2.ensures.0 c.if5.true)
+array-write-firsts c = omega (arith, turn_room c.before.before.before.before.before.before.before.before.before.before.before.before.before.requires c.before.before.before.before.before.before.before.before.before.before.before.loop.invariant.2 c.before.before.before.before.before.before.before.before.before.before.if1.false c.before.before.before.before.before.before.before.before.before.source-at.ensures.0 c.before.before.before.before.before.before.before.before.is_IsLeaf.ensures c.before.before.before.before.before.before.before.if3.false c.before.before.before.before.before.before.sign-length.ensures.0 (omega (arith, c.before.before.before.before.before.before.before.before.before.before.before.before.shared-slice-known.given (c.before.before.before.before.before.before.before.before.before.before.before.loop.to + c.before.before.before.before.before.before.sign-length.result))) c.before.before.before.before.index_at.ensures.0 c.before.before.source-at2.ensures.0 c.if5.true)
 
 cast-lasts : tie.Need-overflow-cast-lasts invariant-loop decreases-loop
-cast-lasts c = let r = turn-row c.before.before.before.before.before.before.before.before.before.before.before.before.before.requires c.before.before.before.before.before.before.before.before.before.before.before.loop.invariant.2 c.before.before.before.before.before.before.before.before.before.before.if1.false in omega (arith, r.0, r.1)
+cast-lasts c = let r = turn_row c.before.before.before.before.before.before.before.before.before.before.before.before.before.requires c.before.before.before.before.before.before.before.before.before.before.before.loop.invariant.2 c.before.before.before.before.before.before.before.before.before.before.if1.false in omega (arith, r.0, r.1)
 
 mul-lasts : tie.Need-overflow-mul-lasts invariant-loop decreases-loop
 mul-lasts c = omega (arith, depth_in c.before.before.before.before.before.before.before.before.before.before.before.before.before.requires c.before.before.before.before.before.before.before.before.before.before.before.loop.invariant.2)
 
 array-write-lasts : tie.Need-array-write-lasts invariant-loop decreases-loop
-array-write-lasts c = omega (arith, turn-room c.before.before.before.before.before.before.before.before.before.before.before.before.before.requires c.before.before.before.before.before.before.before.before.before.before.before.loop.invariant.2 c.before.before.before.before.before.before.before.before.before.before.if1.false c.before.before.before.before.before.before.before.before.before.source-at.ensures.0 c.before.before.before.before.before.before.before.before.is_IsLeaf.ensures c.before.before.before.before.before.before.before.if3.false c.before.before.before.before.before.before.sign-length.ensures.0 (omega (arith, c.before.before.before.before.before.before.before.before.before.before.before.before.shared-slice-known.given (c.before.before.before.before.before.before.before.before.before.before.before.loop.to + c.before.before.before.before.before.before.sign-length.result))) c.before.before.before.before.index_at.ensures.0 c.before.before.source-at2.ensures.0 c.if5.true)
+array-write-lasts c = omega (arith, turn_room c.before.before.before.before.before.before.before.before.before.before.before.before.before.requires c.before.before.before.before.before.before.before.before.before.before.before.loop.invariant.2 c.before.before.before.before.before.before.before.before.before.before.if1.false c.before.before.before.before.before.before.before.before.before.source-at.ensures.0 c.before.before.before.before.before.before.before.before.is_IsLeaf.ensures c.before.before.before.before.before.before.before.if3.false c.before.before.before.before.before.before.sign-length.ensures.0 (omega (arith, c.before.before.before.before.before.before.before.before.before.before.before.before.shared-slice-known.given (c.before.before.before.before.before.before.before.before.before.before.before.loop.to + c.before.before.before.before.before.before.sign-length.result))) c.before.before.before.before.index_at.ensures.0 c.before.before.source-at2.ensures.0 c.if5.true)
 
 add-depth : tie.Need-overflow-add-depth invariant-loop decreases-loop
 add-depth c = omega (arith, depth_in c.before.before.before.before.before.before.before.before.before.before.before.before.before.requires c.before.before.before.before.before.before.before.before.before.before.before.loop.invariant.2)
 
 add-q-3 : tie.Need-overflow-add-q-3 invariant-loop decreases-loop
-add-q-3 c = omega (arith, turn-place c.before.before.before.before.before.before.before.before.before.before.before.before.before.requires c.before.before.before.before.before.before.before.before.before.before.before.loop.invariant.2 c.before.before.before.before.before.before.before.before.before.before.if1.false c.before.before.before.before.before.before.before.before.before.source-at.ensures.0 c.before.before.before.before.before.before.before.before.is_IsLeaf.ensures c.before.before.before.before.before.before.before.if3.false c.before.before.before.before.before.before.sign-length.ensures.0 (omega (arith, c.before.before.before.before.before.before.before.before.before.before.before.before.shared-slice-known.given (c.before.before.before.before.before.before.before.before.before.before.before.loop.to + c.before.before.before.before.before.before.sign-length.result))) c.before.before.before.before.index_at.ensures.0)
+add-q-3 c = omega (arith, turn_place c.before.before.before.before.before.before.before.before.before.before.before.before.before.requires c.before.before.before.before.before.before.before.before.before.before.before.loop.invariant.2 c.before.before.before.before.before.before.before.before.before.before.if1.false c.before.before.before.before.before.before.before.before.before.source-at.ensures.0 c.before.before.before.before.before.before.before.before.is_IsLeaf.ensures c.before.before.before.before.before.before.before.if3.false c.before.before.before.before.before.before.sign-length.ensures.0 (omega (arith, c.before.before.before.before.before.before.before.before.before.before.before.before.shared-slice-known.given (c.before.before.before.before.before.before.before.before.before.before.before.loop.to + c.before.before.before.before.before.before.sign-length.result))) c.before.before.before.before.index_at.ensures.0)
 
 add-end-4 : tie.Need-overflow-add-end-4 invariant-loop decreases-loop
-add-end-4 c = omega (arith, turn-place c.before.before.before.before.before.before.before.before.before.before.before.before.before.requires c.before.before.before.before.before.before.before.before.before.before.before.loop.invariant.2 c.before.before.before.before.before.before.before.before.before.before.if1.false c.before.before.before.before.before.before.before.before.before.source-at.ensures.0 c.before.before.before.before.before.before.before.before.is_IsLeaf.ensures c.before.before.before.before.before.before.before.if3.false c.before.before.before.before.before.before.sign-length.ensures.0 (omega (arith, c.before.before.before.before.before.before.before.before.before.before.before.before.shared-slice-known.given (c.before.before.before.before.before.before.before.before.before.before.before.loop.to + c.before.before.before.before.before.before.sign-length.result))) c.before.before.before.before.index_at.ensures.0)
+add-end-4 c = omega (arith, turn_place c.before.before.before.before.before.before.before.before.before.before.before.before.before.requires c.before.before.before.before.before.before.before.before.before.before.before.loop.invariant.2 c.before.before.before.before.before.before.before.before.before.before.if1.false c.before.before.before.before.before.before.before.before.before.source-at.ensures.0 c.before.before.before.before.before.before.before.before.is_IsLeaf.ensures c.before.before.before.before.before.before.before.if3.false c.before.before.before.before.before.before.sign-length.ensures.0 (omega (arith, c.before.before.before.before.before.before.before.before.before.before.before.before.shared-slice-known.given (c.before.before.before.before.before.before.before.before.before.before.before.loop.to + c.before.before.before.before.before.before.sign-length.result))) c.before.before.before.before.index_at.ensures.0)
 
 add-end-5 : tie.Need-overflow-add-end-5 invariant-loop decreases-loop
 add-end-5 c = omega (arith, turn_end c.before.before.before.before.before.before.before.before.before.before.before.before.before.requires c.before.before.before.before.before.before.before.before.before.before.before.loop.invariant.2 c.before.before.before.before.before.before.before.before.before.before.if1.false c.before.before.before.before.before.before.before.before.before.source-at.ensures.0 c.before.before.before.before.before.before.before.before.is_IsLeaf.ensures c.before.before.before.before.before.before.before.if3.false c.before.before.before.before.before.before.sign-length.ensures.0 (omega (arith, c.before.before.before.before.before.before.before.before.before.before.before.before.shared-slice-known.given (c.before.before.before.before.before.before.before.before.before.before.before.loop.to + c.before.before.before.before.before.before.sign-length.result))) c.before.before.before.before.index_at.ensures.0 c.before.before.source-at2.ensures.0)
 
 loop-less-4 : tie.Need-loop-smaller-4 invariant-loop decreases-loop
-loop-less-4 c = omega (arith, turn-name-in c.before.before.before.before.before.before.before.before.before.before.before.before.before.requires c.before.before.before.before.before.before.before.before.before.before.before.loop.invariant.2 c.before.before.before.before.before.before.before.before.before.before.if1.false c.before.before.before.before.before.before.before.before.before.source-at.ensures.0 c.before.before.before.before.before.before.before.before.is_IsLeaf.ensures c.before.before.before.before.before.before.before.if3.false c.before.before.before.name-length.ensures.0, name_some c.before.before.before.before.before.before.before.before.before.before.before.before.before.args.syntax c.before.before.before.name-length.ensures.0)
+loop-less-4 c = omega (arith, turn_name_in c.before.before.before.before.before.before.before.before.before.before.before.before.before.requires c.before.before.before.before.before.before.before.before.before.before.before.loop.invariant.2 c.before.before.before.before.before.before.before.before.before.before.if1.false c.before.before.before.before.before.before.before.before.before.source-at.ensures.0 c.before.before.before.before.before.before.before.before.is_IsLeaf.ensures c.before.before.before.before.before.before.before.if3.false c.before.before.before.name-length.ensures.0, name_some c.before.before.before.before.before.before.before.before.before.before.before.before.before.args.syntax c.before.before.before.name-length.ensures.0)
 
 loop-again-4 : tie.Need-loop-preserved-4 invariant-loop decreases-loop
-loop-again-4 c = (set_long c.before.before.before.before.before.before.before.before.before.before.before.loop.firsts c.before.before.before.before.before.before.before.before.before.before.before.loop.depth (c.before.before.before.before.before.before.before.before.before.before.before.loop.q + 1) c.before.before.before.before.before.before.before.before.before.before.before.loop.invariant.0, set_long c.before.before.before.before.before.before.before.before.before.before.before.loop.lasts c.before.before.before.before.before.before.before.before.before.before.before.loop.depth c.before.before.before.before.before.before.before.before.before.before.before.loop.end c.before.before.before.before.before.before.before.before.before.before.before.loop.invariant.1, turn-pushed c.before.before.before.before.before.before.before.before.before.before.before.before.before.requires c.before.before.before.before.before.before.before.before.before.before.before.loop.invariant.2 c.before.before.before.before.before.before.before.before.before.before.if1.false c.before.before.before.before.before.before.before.before.before.source-at.ensures.0 c.before.before.before.before.before.before.before.before.is_IsLeaf.ensures c.before.before.before.before.before.before.before.if3.false c.before.before.before.before.before.before.sign-length.ensures.0 (omega (arith, c.before.before.before.before.before.before.before.before.before.before.before.before.shared-slice-known.given (c.before.before.before.before.before.before.before.before.before.before.before.loop.to + c.before.before.before.before.before.before.sign-length.result))) c.before.before.before.before.index_at.ensures.0 c.before.before.source-at2.ensures.0 c.if5.true c.before.before.before.name-length.ensures.0 c.before.before.before.before.before.before.before.before.before.before.before.loop.invariant.0 c.before.before.before.before.before.before.before.before.before.before.before.loop.invariant.1)
+loop-again-4 c = (set_long c.before.before.before.before.before.before.before.before.before.before.before.loop.firsts c.before.before.before.before.before.before.before.before.before.before.before.loop.depth (c.before.before.before.before.before.before.before.before.before.before.before.loop.q + 1) c.before.before.before.before.before.before.before.before.before.before.before.loop.invariant.0, set_long c.before.before.before.before.before.before.before.before.before.before.before.loop.lasts c.before.before.before.before.before.before.before.before.before.before.before.loop.depth c.before.before.before.before.before.before.before.before.before.before.before.loop.end c.before.before.before.before.before.before.before.before.before.before.before.loop.invariant.1, turn_pushed c.before.before.before.before.before.before.before.before.before.before.before.before.before.requires c.before.before.before.before.before.before.before.before.before.before.before.loop.invariant.2 c.before.before.before.before.before.before.before.before.before.before.if1.false c.before.before.before.before.before.before.before.before.before.source-at.ensures.0 c.before.before.before.before.before.before.before.before.is_IsLeaf.ensures c.before.before.before.before.before.before.before.if3.false c.before.before.before.before.before.before.sign-length.ensures.0 (omega (arith, c.before.before.before.before.before.before.before.before.before.before.before.before.shared-slice-known.given (c.before.before.before.before.before.before.before.before.before.before.before.loop.to + c.before.before.before.before.before.before.sign-length.result))) c.before.before.before.before.index_at.ensures.0 c.before.before.source-at2.ensures.0 c.if5.true c.before.before.before.name-length.ensures.0 c.before.before.before.before.before.before.before.before.before.before.before.loop.invariant.0 c.before.before.before.before.before.before.before.before.before.before.before.loop.invariant.1)
 
 loop-less-5 : tie.Need-loop-smaller-5 invariant-loop decreases-loop
-loop-less-5 c = omega (arith, turn-name-in c.before.before.before.before.before.before.before.before.before.before.before.before.before.requires c.before.before.before.before.before.before.before.before.before.before.before.loop.invariant.2 c.before.before.before.before.before.before.before.before.before.before.if1.false c.before.before.before.before.before.before.before.before.before.source-at.ensures.0 c.before.before.before.before.before.before.before.before.is_IsLeaf.ensures c.before.before.before.before.before.before.before.if3.false c.before.before.before.name-length.ensures.0, name_some c.before.before.before.before.before.before.before.before.before.before.before.before.before.args.syntax c.before.before.before.name-length.ensures.0)
+loop-less-5 c = omega (arith, turn_name_in c.before.before.before.before.before.before.before.before.before.before.before.before.before.requires c.before.before.before.before.before.before.before.before.before.before.before.loop.invariant.2 c.before.before.before.before.before.before.before.before.before.before.if1.false c.before.before.before.before.before.before.before.before.before.source-at.ensures.0 c.before.before.before.before.before.before.before.before.is_IsLeaf.ensures c.before.before.before.before.before.before.before.if3.false c.before.before.before.name-length.ensures.0, name_some c.before.before.before.before.before.before.before.before.before.before.before.before.before.args.syntax c.before.before.before.name-length.ensures.0)
 
 loop-again-5 : tie.Need-loop-preserved-5 invariant-loop decreases-loop
-loop-again-5 c = (c.before.before.before.before.before.before.before.before.before.before.before.loop.invariant.0, c.before.before.before.before.before.before.before.before.before.before.before.loop.invariant.1, turn-none c.before.before.before.before.before.before.before.before.before.before.before.before.before.requires c.before.before.before.before.before.before.before.before.before.before.before.loop.invariant.2 c.before.before.before.before.before.before.before.before.before.before.if1.false c.before.before.before.before.before.before.before.before.before.source-at.ensures.0 c.before.before.before.before.before.before.before.before.is_IsLeaf.ensures c.before.before.before.before.before.before.before.if3.false c.before.before.before.before.before.before.sign-length.ensures.0 (omega (arith, c.before.before.before.before.before.before.before.before.before.before.before.before.shared-slice-known.given (c.before.before.before.before.before.before.before.before.before.before.before.loop.to + c.before.before.before.before.before.before.sign-length.result))) c.before.before.before.before.index_at.ensures.0 c.before.before.source-at2.ensures.0 c.if5.false c.before.before.before.name-length.ensures.0)
+loop-again-5 c = (c.before.before.before.before.before.before.before.before.before.before.before.loop.invariant.0, c.before.before.before.before.before.before.before.before.before.before.before.loop.invariant.1, turn_none c.before.before.before.before.before.before.before.before.before.before.before.before.before.requires c.before.before.before.before.before.before.before.before.before.before.before.loop.invariant.2 c.before.before.before.before.before.before.before.before.before.before.if1.false c.before.before.before.before.before.before.before.before.before.source-at.ensures.0 c.before.before.before.before.before.before.before.before.is_IsLeaf.ensures c.before.before.before.before.before.before.before.if3.false c.before.before.before.before.before.before.sign-length.ensures.0 (omega (arith, c.before.before.before.before.before.before.before.before.before.before.before.before.shared-slice-known.given (c.before.before.before.before.before.before.before.before.before.before.before.loop.to + c.before.before.before.before.before.before.sign-length.result))) c.before.before.before.before.index_at.ensures.0 c.before.before.source-at2.ensures.0 c.if5.false c.before.before.before.name-length.ensures.0)
 
 returns : tie.Need-returns invariant-loop decreases-loop
 returns c = turn_done c.before.before.before.before.requires c.before.before.loop.invariant.2 c.before.if1.true c.if2.true

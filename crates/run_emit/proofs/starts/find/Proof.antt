@@ -8,7 +8,7 @@ use Rattle.tree_reader.specs.Code.{Codes}
 use Rattle.tree_reader.specs.Typing.{Uses}
 use Rattle.format_translation.specs.Translation.{Translation}
 use Rattle.run_emit.specs.Inner.Runs.{FindAsks}
-use Rattle.run_emit.proofs.Ends.{nth, Reached, find_inside, reached_none, reached-skip, reached-known, reached-more, reached_done}
+use Rattle.run_emit.proofs.Ends.{nth, Reached, find_inside, reached_none, reached_skip, reached_known, reached_more, reached_done}
 use Rattle.run_emit.proofs.starts.find.Statement.{statement}
 use Rattle.run_emit.proofs.starts.find.Tie as tie
 use Rattle.run_emit.proofs.starts.find.Reads as reads
@@ -29,10 +29,10 @@ add-end-of : tie.Need-overflow-add-end-of invariant-loop decreases-loop
 add-end-of c = omega (arith, find_inside c.before.before.before.before.before.before.before.before.requires.4 c.before.before.before.loop.i c.before.before.loop-test.true)
 
 end-of-requires : tie.Need-end-of-requires invariant-loop decreases-loop
-end-of-requires c κs = (c.before.before.before.before.before.before.before.before.requires.0, c.before.before.before.before.before.before.before.before.requires.1, nth c.before.before.before.before.before.before.before.before.requires.2 c.before.before.before.loop.i, get_or c.before.before.before.before.before.before.before.before.requires.3 c.before.before.before.loop.i 0, reached-skip c.before.before.before.before.before.before.before.before.requires.4 (c.before.before.before.loop.invariant.1 _ _ _ _ c.before.before.before.before.before.before.before.before.requires.4) c.before.before.loop-test.true)
+end-of-requires c κs = (c.before.before.before.before.before.before.before.before.requires.0, c.before.before.before.before.before.before.before.before.requires.1, nth c.before.before.before.before.before.before.before.before.requires.2 c.before.before.before.loop.i, get_or c.before.before.before.before.before.before.before.before.requires.3 c.before.before.before.loop.i 0, reached_skip c.before.before.before.before.before.before.before.before.requires.4 (c.before.before.before.loop.invariant.1 _ _ _ _ c.before.before.before.before.before.before.before.before.requires.4) c.before.before.loop-test.true)
 
 loop-again : tie.Need-loop-preserved invariant-loop decreases-loop
-loop-again c = (omega (arith, c.before.before.loop-test.true), λ f given ts ks a. ⊎_elim (λ h. reached-more a (c.before.before.before.loop.invariant.1 f given ts ks a) c.before.before.loop-test.true (h.1.ensures _ _ _ _ (reached-skip a (c.before.before.before.loop.invariant.1 f given ts ks a) c.before.before.loop-test.true) a.kept) h.2 h.3) (λ h. reached-known a (c.before.before.before.loop.invariant.1 f given ts ks a) c.before.before.loop-test.true h.0.left h.1 h.2) c.if1.branch)
+loop-again c = (omega (arith, c.before.before.loop-test.true), λ f given ts ks a. ⊎_elim (λ h. reached_more a (c.before.before.before.loop.invariant.1 f given ts ks a) c.before.before.loop-test.true (h.1.ensures _ _ _ _ (reached_skip a (c.before.before.before.loop.invariant.1 f given ts ks a) c.before.before.loop-test.true) a.kept) h.2 h.3) (λ h. reached_known a (c.before.before.before.loop.invariant.1 f given ts ks a) c.before.before.loop-test.true h.0.left h.1 h.2) c.if1.branch)
 
 returns : tie.Need-returns invariant-loop decreases-loop
 returns c = λ f given ts ks a. reached_done a c.before.loop.invariant.0 c.loop-test.false (c.before.loop.invariant.1 f given ts ks a)

@@ -4,7 +4,7 @@ use native.Mathlib.Omega.{arith}
 use Rattle.tree_reader.proofs.Lookup.{zeros}
 use Rattle.format_translation.proofs.Accepted.{accepts}
 use Rattle.run_open.proofs.Opening.{prepared_as}
-use Rattle.run_operation.proofs.Laws.{run_refused, root_past, run-accepted}
+use Rattle.run_operation.proofs.Laws.{run_refused, root_past, run_accepted}
 use borrow.Author.Rules.{rules}
 use Rattle.run_operation.proofs.run.run.Statement.{statement}
 use Rattle.run_operation.proofs.run.run.Tie as tie
@@ -38,7 +38,7 @@ run-parts-requires : tie.Need-run-parts-requires
 run-parts-requires c κs = let a = accepts _ c.before.before.before.before.before.before.before.before.before.before.open-translation.ensures.0 c.before.before.before.before.before.before.before.before.enum_told.given.1 in (omega (arith, c.before.before.before.before.before.before.before.if1.false), refl, (let w = c.before.before.before.before.before.before.before.before.before.before.open-translation.ensures.1 a.translation a.is in (_, a.translation, prepared_as c.before.before.before.before.before.source_of.ensures c.before.before.before.before.body_of.ensures w.0, w.1)))
 
 returns-4 : tie.Need-returns-4
-returns-4 c = let a = accepts _ c.before.before.before.before.before.before.before.before.before.before.before.before.before.open-translation.ensures.0 c.before.before.before.before.before.before.before.before.before.before.before.enum_told.given.1 in run-accepted _ _ _ _ _ a.translation a.is _ _ _ (c.before.before.run-parts.ensures _ a.translation (prepared_as c.before.before.before.before.before.before.before.before.source_of.ensures c.before.before.before.before.before.before.before.body_of.ensures (c.before.before.before.before.before.before.before.before.before.before.before.before.before.open-translation.ensures.1 a.translation a.is).0) (c.before.before.before.before.before.before.before.before.before.before.before.before.before.open-translation.ensures.1 a.translation a.is).1)
+returns-4 c = let a = accepts _ c.before.before.before.before.before.before.before.before.before.before.before.before.before.open-translation.ensures.0 c.before.before.before.before.before.before.before.before.before.before.before.enum_told.given.1 in run_accepted _ _ _ _ _ a.translation a.is _ _ _ (c.before.before.run-parts.ensures _ a.translation (prepared_as c.before.before.before.before.before.before.before.before.source_of.ensures c.before.before.before.before.before.before.before.body_of.ensures (c.before.before.before.before.before.before.before.before.before.before.before.before.before.open-translation.ensures.1 a.translation a.is).0) (c.before.before.before.before.before.before.before.before.before.before.before.before.before.open-translation.ensures.1 a.translation a.is).1)
 
 pub run_spec : {M : Type 1} → statement M
 run_spec =

@@ -1,6 +1,6 @@
 use Rattle.run_single.proofs.Laws.{row_start}
-use Rattle.run_measure.proofs.Learning.{Learning, learn_start, learn-in, learn-back, learn-on, learn-down}
-use Rattle.run_measure.proofs.Rows.{Open, open_in, open_done, open-back, open-deep, open-broken, open-on, open-down}
+use Rattle.run_measure.proofs.Learning.{Learning, learn_start, learn_in, learn_back, learn_on, learn_down}
+use Rattle.run_measure.proofs.Rows.{Open, open_in, open_done, open_back, open_deep, open_broken, open_on, open_down}
 use Rattle.run_measure.proofs.Laws.{step_row, deeper}
 use Rattle.run_measure.proofs.Windows.{kept_all}
 use Rattle.run_measure.specs.Inner.Descent.{down_row}
@@ -65,10 +65,10 @@ array-read-weight : tie.Need-array-read-weight invariant-loop decreases-loop
 array-read-weight c = omega (arith, c.before.before.loop.invariant.0.shallow, c.before.before.before.before.before.before.requires.5)
 
 sub-keep-end : tie.Need-overflow-sub-keep-end invariant-loop decreases-loop
-sub-keep-end c = let z = learn-in _ _ _ _ c.before.before.before.loop.invariant.1 c.before.if2.false in omega (arith, z.0)
+sub-keep-end c = let z = learn_in _ _ _ _ c.before.before.before.loop.invariant.1 c.before.if2.false in omega (arith, z.0)
 
 shared-slice-read-keep-end : tie.Need-shared-slice-read-keep-end invariant-loop decreases-loop
-shared-slice-read-keep-end c = (learn-in _ _ _ _ c.before.before.before.before.loop.invariant.1 c.before.before.if2.false).1
+shared-slice-read-keep-end c = (learn_in _ _ _ _ c.before.before.before.before.loop.invariant.1 c.before.before.if2.false).1
 
 mul-keep-end : tie.Need-overflow-mul-keep-end invariant-loop decreases-loop
 mul-keep-end c = omega (arith, c.before.before.before.before.loop.invariant.0.shallow, c.before.before.before.before.before.before.before.before.requires.5)
@@ -77,13 +77,13 @@ array-read-keep-end : tie.Need-array-read-keep-end invariant-loop decreases-loop
 array-read-keep-end c = omega (arith, c.before.before.before.before.loop.invariant.0.shallow, c.before.before.before.before.before.before.before.before.requires.5)
 
 keep-end-requires : tie.Need-keep-end-requires invariant-loop decreases-loop
-keep-end-requires c κs = let z = learn-in _ _ _ _ c.before.before.before.before.loop.invariant.1 c.before.before.if2.false in (z.2, z.3)
+keep-end-requires c κs = let z = learn_in _ _ _ _ c.before.before.before.before.loop.invariant.1 c.before.before.if2.false in (z.2, z.3)
 
 loop-less : tie.Need-loop-smaller invariant-loop decreases-loop
 loop-less c = omega (arith, c.before.before.before.before.before.if2.false)
 
 loop-again : tie.Need-loop-preserved invariant-loop decreases-loop
-loop-again c = (open-back _ _ _ _ _ _ _ c.before.before.before.before.before.before.before.loop.invariant.0 (kept_all _ _) c.before.before.before.before.before.before.if1.true c.before.before.before.before.before.if2.false, learn-back _ _ _ _ c.before.before.before.before.before.before.before.loop.invariant.1 c.before.before.before.before.before.before.if1.true c.before.before.before.before.before.if2.false c.before.before.before.before.before.before.before.loop.invariant.0.inside c.before.before.keep-end.ensures, c.before.ends.given ∙ c.before.before.before.before.before.before.before.loop.invariant.2, refl)
+loop-again c = (open_back _ _ _ _ _ _ _ c.before.before.before.before.before.before.before.loop.invariant.0 (kept_all _ _) c.before.before.before.before.before.before.if1.true c.before.before.before.before.before.if2.false, learn_back _ _ _ _ c.before.before.before.before.before.before.before.loop.invariant.1 c.before.before.before.before.before.before.if1.true c.before.before.before.before.before.if2.false c.before.before.before.before.before.before.before.loop.invariant.0.inside c.before.before.keep-end.ensures, c.before.ends.given ∙ c.before.before.before.before.before.before.before.loop.invariant.2, refl)
 
 shared-slice-read-kind : tie.Need-shared-slice-read-kind invariant-loop decreases-loop
 shared-slice-read-kind c = (open_in _ _ _ _ _ _ _ c.before.before.loop.invariant.0 c.before.if1.false c.before.before.before.before.before.before.requires.0.short).0
@@ -98,7 +98,7 @@ same-length-2 : tie.Need-same-length-2 invariant-loop decreases-loop
 same-length-2 c = c.before.before.before.before.loop.invariant.2
 
 returns-2 : tie.Need-returns-2 invariant-loop decreases-loop
-returns-2 c = ((open-deep _ _ _ _ _ _ _ c.before.before.before.before.loop.invariant.0 c.before.before.before.if1.false (sym c.before.out-of-levels.ensures ∙ c.if3.true), tt), c.before.before.before.before.loop.invariant.1.learnt)
+returns-2 c = ((open_deep _ _ _ _ _ _ _ c.before.before.before.before.loop.invariant.0 c.before.before.before.if1.false (sym c.before.out-of-levels.ensures ∙ c.if3.true), tt), c.before.before.before.before.loop.invariant.1.learnt)
 
 weigh-requires : tie.Need-weigh-requires invariant-loop decreases-loop
 weigh-requires c κs = let z = open_in _ _ _ _ _ _ _ c.before.before.before.before.before.loop.invariant.0 c.before.before.before.before.if1.false c.before.before.before.before.before.before.before.before.before.requires.0.short in (z.2, omega (arith, c.before.before.before.before.before.loop.invariant.0.shallow, c.before.before.before.before.before.before.before.before.before.requires.5), omega (arith, c.before.before.before.before.before.loop.invariant.0.long), c.before.before.before.before.before.loop.invariant.3)
@@ -116,7 +116,7 @@ same-length-3 : tie.Need-same-length-3 invariant-loop decreases-loop
 same-length-3 c = c.before.before.before.before.before.before.before.before.before.loop.invariant.2
 
 returns-3 : tie.Need-returns-3 invariant-loop decreases-loop
-returns-3 c = ((open-broken _ _ _ _ _ _ _ c.before.before.before.before.before.before.before.before.before.loop.invariant.0 c.before.before.before.before.before.before.before.before.if1.false (sym c.before.before.before.before.before.before.out-of-levels.ensures ∙ c.before.before.before.before.before.if3.false) _ c.before.before.before.weigh.ensures.1.2 _ (c.before.before.step-at.ensures.0 _ _ c.before.before.before.weigh.ensures.1.1) c.enum_told.given.1, tt), c.before.before.before.before.before.before.before.before.before.loop.invariant.1.learnt)
+returns-3 c = ((open_broken _ _ _ _ _ _ _ c.before.before.before.before.before.before.before.before.before.loop.invariant.0 c.before.before.before.before.before.before.before.before.if1.false (sym c.before.before.before.before.before.before.out-of-levels.ensures ∙ c.before.before.before.before.before.if3.false) _ c.before.before.before.weigh.ensures.1.2 _ (c.before.before.step-at.ensures.0 _ _ c.before.before.before.weigh.ensures.1.1) c.enum_told.given.1, tt), c.before.before.before.before.before.before.before.before.before.loop.invariant.1.learnt)
 
 add-q : tie.Need-overflow-add-q invariant-loop decreases-loop
 add-q c = let z = open_in _ _ _ _ _ _ _ c.before.before.before.before.before.before.before.before.before.before.loop.invariant.0 c.before.before.before.before.before.before.before.before.before.if1.false c.before.before.before.before.before.before.before.before.before.before.before.before.before.before.requires.0.short in omega (arith, z.2)
@@ -125,7 +125,7 @@ loop-less-2 : tie.Need-loop-smaller-2 invariant-loop decreases-loop
 loop-less-2 c = let z = step_row _ _ _ _ _ c.before.before.first.given.1 c.before.before.before.before.step-at.ensures.1.0 in omega (arith, z.0, z.1)
 
 loop-again-2 : tie.Need-loop-preserved-2 invariant-loop decreases-loop
-loop-again-2 c = (open-on _ _ _ _ _ _ _ c.before.before.before.before.before.before.before.before.before.before.before.loop.invariant.0 c.before.before.before.before.before.before.before.before.before.before.if1.false (sym c.before.before.before.before.before.before.before.before.out-of-levels.ensures ∙ c.before.before.before.before.before.before.before.if3.false) _ c.before.before.before.before.before.weigh.ensures.1.2 _ (c.before.before.before.before.step-at.ensures.0 _ _ c.before.before.before.before.before.weigh.ensures.1.1) c.before.before.first.given.1 c.before.before.before.before.step-at.ensures.1.0 _ c.before.before.before.before.before.weigh.ensures.0 c.if4.true, learn-on _ _ _ _ c.before.before.before.before.before.before.before.before.before.before.before.loop.invariant.1 c.before.before.before.before.before.before.before.before.before.before.if1.false (sym c.before.before.before.before.before.before.before.before.out-of-levels.ensures ∙ c.before.before.before.before.before.before.before.if3.false) _ c.before.before.before.before.step-at.ensures.1.1.0 c.before.before.first.given.1 (step_row _ _ _ _ _ c.before.before.first.given.1 c.before.before.before.before.step-at.ensures.1.0).0 c.if4.true, c.before.before.before.before.before.before.before.before.before.before.before.loop.invariant.2, c.before.before.before.before.before.before.before.before.before.before.before.loop.invariant.3 ∙ sym (c.before.before.before.before.before.weigh.ensures.0.same _ (omega arith)))
+loop-again-2 c = (open_on _ _ _ _ _ _ _ c.before.before.before.before.before.before.before.before.before.before.before.loop.invariant.0 c.before.before.before.before.before.before.before.before.before.before.if1.false (sym c.before.before.before.before.before.before.before.before.out-of-levels.ensures ∙ c.before.before.before.before.before.before.before.if3.false) _ c.before.before.before.before.before.weigh.ensures.1.2 _ (c.before.before.before.before.step-at.ensures.0 _ _ c.before.before.before.before.before.weigh.ensures.1.1) c.before.before.first.given.1 c.before.before.before.before.step-at.ensures.1.0 _ c.before.before.before.before.before.weigh.ensures.0 c.if4.true, learn_on _ _ _ _ c.before.before.before.before.before.before.before.before.before.before.before.loop.invariant.1 c.before.before.before.before.before.before.before.before.before.before.if1.false (sym c.before.before.before.before.before.before.before.before.out-of-levels.ensures ∙ c.before.before.before.before.before.before.before.if3.false) _ c.before.before.before.before.step-at.ensures.1.1.0 c.before.before.first.given.1 (step_row _ _ _ _ _ c.before.before.first.given.1 c.before.before.before.before.step-at.ensures.1.0).0 c.if4.true, c.before.before.before.before.before.before.before.before.before.before.before.loop.invariant.2, c.before.before.before.before.before.before.before.before.before.before.before.loop.invariant.3 ∙ sym (c.before.before.before.before.before.weigh.ensures.0.same _ (omega arith)))
 
 cast-firsts : tie.Need-overflow-cast-firsts invariant-loop decreases-loop
 cast-firsts c = let z = open_in _ _ _ _ _ _ _ c.before.before.before.before.before.before.before.before.before.before.before.loop.invariant.0 c.before.before.before.before.before.before.before.before.before.before.if1.false c.before.before.before.before.before.before.before.before.before.before.before.before.before.before.before.requires.0.short in omega (arith, z.2)
@@ -152,7 +152,7 @@ loop-less-3 : tie.Need-loop-smaller-3 invariant-loop decreases-loop
 loop-less-3 c = let z = step_row _ _ _ _ _ c.before.before.first.given.1 c.before.before.before.before.step-at.ensures.1.0 in omega (arith, z.0, z.1)
 
 loop-again-3 : tie.Need-loop-preserved-3 invariant-loop decreases-loop
-loop-again-3 c = (open-down _ _ _ _ _ _ _ c.before.before.before.before.before.before.before.before.before.before.before.loop.invariant.0 c.before.before.before.before.before.before.before.before.before.before.if1.false (sym c.before.before.before.before.before.before.before.before.out-of-levels.ensures ∙ c.before.before.before.before.before.before.before.if3.false) _ c.before.before.before.before.before.weigh.ensures.1.2 _ (c.before.before.before.before.step-at.ensures.0 _ _ c.before.before.before.before.before.weigh.ensures.1.1) c.before.before.first.given.1 c.before.before.before.before.step-at.ensures.1.0 _ c.before.before.before.before.before.weigh.ensures.0 refl c.before.before.before.before.before.before.before.before.before.before.before.before.before.before.before.requires.0.short c.before.before.before.before.before.before.before.before.before.before.before.before.before.before.before.requires.5 (deeper _ _ _ _ c.before.before.before.before.before.before.before.before.before.before.before.loop.invariant.0.shallow (sym c.before.before.before.before.before.before.before.before.out-of-levels.ensures ∙ c.before.before.before.before.before.before.before.if3.false) _ c.before.before.before.before.step-at.ensures.1.1.1 c.before.before.first.given.1 c.if4.false), let z = open_in _ _ _ _ _ _ _ c.before.before.before.before.before.before.before.before.before.before.before.loop.invariant.0 c.before.before.before.before.before.before.before.before.before.before.if1.false c.before.before.before.before.before.before.before.before.before.before.before.before.before.before.before.requires.0.short in learn-down _ _ _ _ c.before.before.before.before.before.before.before.before.before.before.before.loop.invariant.1 c.before.before.before.before.before.before.before.before.before.before.if1.false (sym c.before.before.before.before.before.before.before.before.out-of-levels.ensures ∙ c.before.before.before.before.before.before.before.if3.false) _ c.before.before.before.before.step-at.ensures.1.1.0 c.before.before.first.given.1 (step_row _ _ _ _ _ c.before.before.first.given.1 c.before.before.before.before.step-at.ensures.1.0).0 c.before.before.before.before.before.before.before.before.before.before.before.loop.invariant.0.first_long c.before.before.before.before.before.before.before.before.before.before.before.loop.invariant.0.last_long c.before.before.before.before.before.before.before.before.before.before.before.before.before.before.before.requires.5 (deeper _ _ _ _ c.before.before.before.before.before.before.before.before.before.before.before.loop.invariant.0.shallow (sym c.before.before.before.before.before.before.before.before.out-of-levels.ensures ∙ c.before.before.before.before.before.before.before.if3.false) _ c.before.before.before.before.step-at.ensures.1.1.1 c.before.before.first.given.1 c.if4.false) z.0 z.1, c.before.before.before.before.before.before.before.before.before.before.before.loop.invariant.2, sym c.before.before.before.before.before.weigh.ensures.1.1)
+loop-again-3 c = (open_down _ _ _ _ _ _ _ c.before.before.before.before.before.before.before.before.before.before.before.loop.invariant.0 c.before.before.before.before.before.before.before.before.before.before.if1.false (sym c.before.before.before.before.before.before.before.before.out-of-levels.ensures ∙ c.before.before.before.before.before.before.before.if3.false) _ c.before.before.before.before.before.weigh.ensures.1.2 _ (c.before.before.before.before.step-at.ensures.0 _ _ c.before.before.before.before.before.weigh.ensures.1.1) c.before.before.first.given.1 c.before.before.before.before.step-at.ensures.1.0 _ c.before.before.before.before.before.weigh.ensures.0 refl c.before.before.before.before.before.before.before.before.before.before.before.before.before.before.before.requires.0.short c.before.before.before.before.before.before.before.before.before.before.before.before.before.before.before.requires.5 (deeper _ _ _ _ c.before.before.before.before.before.before.before.before.before.before.before.loop.invariant.0.shallow (sym c.before.before.before.before.before.before.before.before.out-of-levels.ensures ∙ c.before.before.before.before.before.before.before.if3.false) _ c.before.before.before.before.step-at.ensures.1.1.1 c.before.before.first.given.1 c.if4.false), let z = open_in _ _ _ _ _ _ _ c.before.before.before.before.before.before.before.before.before.before.before.loop.invariant.0 c.before.before.before.before.before.before.before.before.before.before.if1.false c.before.before.before.before.before.before.before.before.before.before.before.before.before.before.before.requires.0.short in learn_down _ _ _ _ c.before.before.before.before.before.before.before.before.before.before.before.loop.invariant.1 c.before.before.before.before.before.before.before.before.before.before.if1.false (sym c.before.before.before.before.before.before.before.before.out-of-levels.ensures ∙ c.before.before.before.before.before.before.before.if3.false) _ c.before.before.before.before.step-at.ensures.1.1.0 c.before.before.first.given.1 (step_row _ _ _ _ _ c.before.before.first.given.1 c.before.before.before.before.step-at.ensures.1.0).0 c.before.before.before.before.before.before.before.before.before.before.before.loop.invariant.0.first_long c.before.before.before.before.before.before.before.before.before.before.before.loop.invariant.0.last_long c.before.before.before.before.before.before.before.before.before.before.before.before.before.before.before.requires.5 (deeper _ _ _ _ c.before.before.before.before.before.before.before.before.before.before.before.loop.invariant.0.shallow (sym c.before.before.before.before.before.before.before.before.out-of-levels.ensures ∙ c.before.before.before.before.before.before.before.if3.false) _ c.before.before.before.before.step-at.ensures.1.1.1 c.before.before.first.given.1 c.if4.false) z.0 z.1, c.before.before.before.before.before.before.before.before.before.before.before.loop.invariant.2, sym c.before.before.before.before.before.weigh.ensures.1.1)
 
 pub measure-rows-spec : {M : Type 1} → statement M
 measure-rows-spec =

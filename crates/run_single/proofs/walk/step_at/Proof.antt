@@ -1,7 +1,7 @@
 use Rattle.run_single.proofs.Laws.{own_is, total_is, capped_part}
 use Rattle.run_measure.proofs.Learning.{token_decides, name_decides}
-use Rattle.run_measure.proofs.Laws.{token_node, token_goes, token_in, name-goes, leaf_childless, name_childless}
-use Rattle.tree_reader.proofs.Laws.{place_tree, class_in, named_node, named_in, named-kinds, named_end}
+use Rattle.run_measure.proofs.Laws.{token_node, token_goes, token_in, name_goes, leaf_childless, name_childless}
+use Rattle.tree_reader.proofs.Laws.{place_tree, class_in, named_node, named_in, named_kinds, named_end}
 use Rattle.tree_reader.specs.declared.node.Syntax.TheVariants.{Tree}
 use lib.ListN.{get_or}
 use native.Mathlib.Omega.{arith}
@@ -48,7 +48,7 @@ count-in-requires : tie.Need-count-in-requires
 count-in-requires c κs = let w = named_in Tree c.before.before.before.before.before.before.before.before.before.args.source.now c.before.before.before.before.before.before.before.before.before.args.index.now [] _ c.before.before.before.before.before.before.before.before.before.args.tree.now _ (place_tree _ _ refl c.before.before.before.before.before.to-usize.ensures.0 c.before.before.before.before.place_at.ensures) c.before.before.production-place.ensures c.before.if1.false c.before.before.before.before.before.before.before.before.before.requires.0 c.before.before.before.before.before.before.before.before.before.requires.1 (λ i. omega (arith, c.before.before.before.before.before.before.before.shared-slice-known2.given i)) in omega (arith, w.0, w.1)
 
 returns-2 : tie.Need-returns-2
-returns-2 c = let node = named_node Tree c.before.before.before.before.before.before.before.before.before.before.before.before.args.source.now c.before.before.before.before.before.before.before.before.before.before.before.before.args.index.now [] _ c.before.before.before.before.before.before.before.before.before.before.before.before.args.tree.now _ (place_tree _ _ refl c.before.before.before.before.before.before.before.before.to-usize.ensures.0 c.before.before.before.before.before.before.before.place_at.ensures) c.before.before.before.before.before.production-place.ensures c.before.before.before.before.if1.false refl (ap (λ (n : ℕ). c.before.before.before.before.before.production-place.result + 2 + n) c.before.before.before.pair-in.ensures.0) refl in ((λ i ws e. name-goes _ _ _ _ _ _ _ _ _ _ _ _ node (own_is ws i _ e _ _ c.before.before.count-in.ensures.0) (capped_part _ _ _ c.before.add-share.ensures) (total_is ws i _ e c.before.before.before.before.before.before.before.before.before.before.before.before.requires.3) c.add.ensures), ((omega arith, named_end Tree c.before.before.before.before.before.before.before.before.before.before.before.before.args.source.now c.before.before.before.before.before.before.before.before.before.before.before.before.args.index.now [] _ c.before.before.before.before.before.before.before.before.before.before.before.before.args.tree.now _ (place_tree _ _ refl c.before.before.before.before.before.before.before.before.to-usize.ensures.0 c.before.before.before.before.before.before.before.place_at.ensures) c.before.before.before.before.before.production-place.ensures c.before.before.before.before.if1.false refl, omega (arith, c.before.add-share.ensures), omega (arith, c.add.ensures), named-kinds Tree c.before.before.before.before.before.before.before.before.before.before.before.before.args.source.now c.before.before.before.before.before.before.before.before.before.before.before.before.args.index.now [] _ c.before.before.before.before.before.before.before.before.before.before.before.before.args.tree.now _ (place_tree _ _ refl c.before.before.before.before.before.before.before.before.to-usize.ensures.0 c.before.before.before.before.before.before.before.place_at.ensures) c.before.before.before.before.before.production-place.ensures c.before.before.before.before.if1.false c.before.before.before.before.before.before.before.before.before.before.before.before.requires.0 c.before.before.before.before.before.before.before.before.before.before.before.before.requires.1 (λ i. omega (arith, c.before.before.before.before.before.before.before.before.before.before.shared-slice-known2.given i)) refl (ap (λ (n : ℕ). c.before.before.before.before.before.production-place.result + 2 + n) c.before.before.before.pair-in.ensures.0)), (name_decides _ _ _ _ _ _ _ _ node, name_childless c.before.before.before.before.before.before.before.before.before.before.before.before.args.index.now _ c.before.before.before.before.before.before.before.before.before.before.before.before.args.tree.now _ _ _ c.before.before.before.before.before.before.before.before.to-usize.ensures.0 c.before.before.before.before.before.before.before.place_at.ensures c.before.before.before.before.before.production-place.ensures c.before.before.before.before.if1.false)))
+returns-2 c = let node = named_node Tree c.before.before.before.before.before.before.before.before.before.before.before.before.args.source.now c.before.before.before.before.before.before.before.before.before.before.before.before.args.index.now [] _ c.before.before.before.before.before.before.before.before.before.before.before.before.args.tree.now _ (place_tree _ _ refl c.before.before.before.before.before.before.before.before.to-usize.ensures.0 c.before.before.before.before.before.before.before.place_at.ensures) c.before.before.before.before.before.production-place.ensures c.before.before.before.before.if1.false refl (ap (λ (n : ℕ). c.before.before.before.before.before.production-place.result + 2 + n) c.before.before.before.pair-in.ensures.0) refl in ((λ i ws e. name_goes _ _ _ _ _ _ _ _ _ _ _ _ node (own_is ws i _ e _ _ c.before.before.count-in.ensures.0) (capped_part _ _ _ c.before.add-share.ensures) (total_is ws i _ e c.before.before.before.before.before.before.before.before.before.before.before.before.requires.3) c.add.ensures), ((omega arith, named_end Tree c.before.before.before.before.before.before.before.before.before.before.before.before.args.source.now c.before.before.before.before.before.before.before.before.before.before.before.before.args.index.now [] _ c.before.before.before.before.before.before.before.before.before.before.before.before.args.tree.now _ (place_tree _ _ refl c.before.before.before.before.before.before.before.before.to-usize.ensures.0 c.before.before.before.before.before.before.before.place_at.ensures) c.before.before.before.before.before.production-place.ensures c.before.before.before.before.if1.false refl, omega (arith, c.before.add-share.ensures), omega (arith, c.add.ensures), named_kinds Tree c.before.before.before.before.before.before.before.before.before.before.before.before.args.source.now c.before.before.before.before.before.before.before.before.before.before.before.before.args.index.now [] _ c.before.before.before.before.before.before.before.before.before.before.before.before.args.tree.now _ (place_tree _ _ refl c.before.before.before.before.before.before.before.before.to-usize.ensures.0 c.before.before.before.before.before.before.before.place_at.ensures) c.before.before.before.before.before.production-place.ensures c.before.before.before.before.if1.false c.before.before.before.before.before.before.before.before.before.before.before.before.requires.0 c.before.before.before.before.before.before.before.before.before.before.before.before.requires.1 (λ i. omega (arith, c.before.before.before.before.before.before.before.before.before.before.shared-slice-known2.given i)) refl (ap (λ (n : ℕ). c.before.before.before.before.before.production-place.result + 2 + n) c.before.before.before.pair-in.ensures.0)), (name_decides _ _ _ _ _ _ _ _ node, name_childless c.before.before.before.before.before.before.before.before.before.before.before.before.args.index.now _ c.before.before.before.before.before.before.before.before.before.before.before.before.args.tree.now _ _ _ c.before.before.before.before.before.before.before.before.to-usize.ensures.0 c.before.before.before.before.before.before.before.place_at.ensures c.before.before.before.before.before.production-place.ensures c.before.before.before.before.if1.false)))
 
 pub step-at-spec : {M : Type 1} → statement M
 step-at-spec =

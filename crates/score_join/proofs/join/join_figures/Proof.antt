@@ -11,7 +11,7 @@ use Rattle.score_tree.specs.Linear.{Loads}
 use Rattle.score_tree.specs.Inner.Terms.{TermAsks}
 use Rattle.score_join.proofs.Places.{zeros_asked, row_out, row_back}
 use Rattle.score_join.proofs.Puts.{written_long}
-use Rattle.score_join.proofs.Joins.{Figuring, figure_begin, figure_room, figure-outside, figure-next, figure_end, puts_outside}
+use Rattle.score_join.proofs.Joins.{Figuring, figure_begin, figure_room, figure_outside, figure_next, figure_end, puts_outside}
 use Rattle.score_join.proofs.join.join_figures.Statement.{statement}
 use Rattle.score_join.proofs.join.join_figures.Tie as tie
 use Rattle.score_join.proofs.join.join_figures.Reads as reads
@@ -47,7 +47,7 @@ same_length : tie.Need-same-length invariant-loop decreases-loop
 same_length c = c.before.before.before.before.loop.invariant.0
 
 returns-2 : tie.Need-returns-2 invariant-loop decreases-loop
-returns-2 c = λ l given w u a. puts_outside (figure-outside (c.before.before.before.before.loop.invariant.1 l given w u a) (c.before.before.before.before.before.before.before.before.form-at.ensures l given w u a) _ c.before.before.before.before.before.before.end.given.1 c.before.before.before.loop-test.true _ (row_back (c.before.before.before.before.before.before.before.before.form-at.ensures l given w u a) _ c.before.before.before.before.before.before.end.given.1 _ c.before.before.before.loop-test.true) (sym c.before.is-figure.ensures ∙ not-true _ c.if1.true))
+returns-2 c = λ l given w u a. puts_outside (figure_outside (c.before.before.before.before.loop.invariant.1 l given w u a) (c.before.before.before.before.before.before.before.before.form-at.ensures l given w u a) _ c.before.before.before.before.before.before.end.given.1 c.before.before.before.loop-test.true _ (row_back (c.before.before.before.before.before.before.before.before.form-at.ensures l given w u a) _ c.before.before.before.before.before.before.end.given.1 _ c.before.before.before.loop-test.true) (sym c.before.is-figure.ensures ∙ not-true _ c.if1.true))
 
 put-figure-requires : tie.Need-put-figure-requires invariant-loop decreases-loop
 put-figure-requires c κs = let r = figure_room (c.before.before.before.before.before.loop.invariant.1 _ _ _ _ c.before.before.before.before.before.before.before.before.before.before.before.before.before.before.before.requires.3.4) c.before.before.before.before.before.before.before.before.before.before.before.before.before.before.before.requires.0 c.before.before.before.before.loop-test.true in (sym c.before.before.is-figure.ensures ∙ not-false _ c.before.if1.false, r.0)
@@ -59,7 +59,7 @@ loop-less : tie.Need-loop-smaller invariant-loop decreases-loop
 loop-less c = omega (arith, c.before.before.before.before.before.before.before.loop-test.true, c.before.before.before.before.before.before.before.before.before.before.before.before.before.before.before.before.before.before.requires.2)
 
 loop-again : tie.Need-loop-preserved invariant-loop decreases-loop
-loop-again c = (written_long _ _ _ _ _ c.before.before.put-figure.ensures ∙ c.before.before.before.before.before.before.before.before.loop.invariant.0, λ l given w u a. figure-next (c.before.before.before.before.before.before.before.before.loop.invariant.1 l given w u a) (c.before.before.before.before.before.before.before.before.before.before.before.before.form-at.ensures l given w u a) _ c.before.before.before.before.before.before.before.before.before.before.end.given.1 c.before.before.before.before.before.before.before.loop-test.true _ (row_back (c.before.before.before.before.before.before.before.before.before.before.before.before.form-at.ensures l given w u a) _ c.before.before.before.before.before.before.before.before.before.before.end.given.1 _ c.before.before.before.before.before.before.before.loop-test.true) (sym c.before.before.before.before.before.is-figure.ensures ∙ not-false _ c.before.before.before.before.if1.false) _ _ c.before.before.put-figure.ensures)
+loop-again c = (written_long _ _ _ _ _ c.before.before.put-figure.ensures ∙ c.before.before.before.before.before.before.before.before.loop.invariant.0, λ l given w u a. figure_next (c.before.before.before.before.before.before.before.before.loop.invariant.1 l given w u a) (c.before.before.before.before.before.before.before.before.before.before.before.before.form-at.ensures l given w u a) _ c.before.before.before.before.before.before.before.before.before.before.end.given.1 c.before.before.before.before.before.before.before.loop-test.true _ (row_back (c.before.before.before.before.before.before.before.before.before.before.before.before.form-at.ensures l given w u a) _ c.before.before.before.before.before.before.before.before.before.before.end.given.1 _ c.before.before.before.before.before.before.before.loop-test.true) (sym c.before.before.before.before.before.is-figure.ensures ∙ not-false _ c.before.before.before.before.if1.false) _ _ c.before.before.put-figure.ensures)
 
 same-length-2 : tie.Need-same-length-2 invariant-loop decreases-loop
 same-length-2 c = c.before.loop.invariant.0

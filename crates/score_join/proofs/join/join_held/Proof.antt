@@ -3,7 +3,7 @@ use mathlib.Core.Path.{refl}
 use native.Mathlib.Omega.{arith}
 use Rattle.tree_reader.proofs.Lookup.{zeros}
 use Rattle.score_tree.specs.LoadTable.{figure_of}
-use Rattle.score_join.proofs.Answering.{parts_held, held_outside, held-inside, held-short, held-put}
+use Rattle.score_join.proofs.Answering.{parts_held, held_outside, held_inside, held_short, held_put}
 use borrow.Author.Rules.{rules}
 use Rattle.score_join.proofs.join.join_held.Statement.{statement}
 use Rattle.score_join.proofs.join.join_held.Tie as tie
@@ -25,13 +25,13 @@ returns : tie.Need-returns
 returns c = λ f w z n k. held_outside f w _ _ _ _ (c.before.before.before.before.join-loads.ensures f (figure_of w) (parts_held _ _ c.before.before.before.before.before.before.before.before.before.before.before.before.before.before.before.before.args.indexes.now _ _ _ f w (λ i. omega (arith, c.before.before.before.before.before.before.before.before.before.before.before.before.before.before.shared-slice-known2.given i)) c.before.before.before.before.before.before.before.before.before.before.before.before.before.before.before.before.requires.0 z n k c.before.before.before.before.before.before.before.before.before.build-items.ensures)) c.before.enum_told.given.1 c.refuse.ensures
 
 returns-2 : tie.Need-returns-2
-returns-2 c = λ f w z n k. held-short f w _ _ _ _ (c.before.before.before.before.before.before.join-loads.ensures f (figure_of w) (parts_held _ _ c.before.before.before.before.before.before.before.before.before.before.before.before.before.before.before.before.before.before.args.indexes.now _ _ _ f w (λ i. omega (arith, c.before.before.before.before.before.before.before.before.before.before.before.before.before.before.before.before.shared-slice-known2.given i)) c.before.before.before.before.before.before.before.before.before.before.before.before.before.before.before.before.before.before.requires.0 z n k c.before.before.before.before.before.before.before.before.before.before.before.build-items.ensures)) _ c.before.before.before.n.given.1 c.before.if1.true c.refuse2.ensures
+returns-2 c = λ f w z n k. held_short f w _ _ _ _ (c.before.before.before.before.before.before.join-loads.ensures f (figure_of w) (parts_held _ _ c.before.before.before.before.before.before.before.before.before.before.before.before.before.before.before.before.before.before.args.indexes.now _ _ _ f w (λ i. omega (arith, c.before.before.before.before.before.before.before.before.before.before.before.before.before.before.before.before.shared-slice-known2.given i)) c.before.before.before.before.before.before.before.before.before.before.before.before.before.before.before.before.before.before.requires.0 z n k c.before.before.before.before.before.before.before.before.before.before.before.build-items.ensures)) _ c.before.before.before.n.given.1 c.before.if1.true c.refuse2.ensures
 
 put-requires : tie.Need-put-requires
-put-requires c κs = (held-inside _ _ [] _ _ _ (c.before.before.before.before.before.before.before.join-loads.ensures c.before.before.before.before.before.before.before.before.before.before.before.before.before.before.before.before.before.before.before.requires.1.0 (figure_of c.before.before.before.before.before.before.before.before.before.before.before.before.before.before.before.before.before.before.before.requires.1.1) (parts_held _ _ c.before.before.before.before.before.before.before.before.before.before.before.before.before.before.before.before.before.before.before.args.indexes.now _ _ _ c.before.before.before.before.before.before.before.before.before.before.before.before.before.before.before.before.before.before.before.requires.1.0 c.before.before.before.before.before.before.before.before.before.before.before.before.before.before.before.before.before.before.before.requires.1.1 (λ i. omega (arith, c.before.before.before.before.before.before.before.before.before.before.before.before.before.before.before.before.before.shared-slice-known2.given i)) c.before.before.before.before.before.before.before.before.before.before.before.before.before.before.before.before.before.before.before.requires.0 c.before.before.before.before.before.before.before.before.before.before.before.before.before.before.before.before.before.before.before.requires.1.2 c.before.before.before.before.before.before.before.before.before.before.before.before.before.before.before.before.before.before.before.requires.1.3 c.before.before.before.before.before.before.before.before.before.before.before.before.before.before.before.before.before.before.before.requires.1.4 c.before.before.before.before.before.before.before.before.before.before.before.before.build-items.ensures)) _ c.before.before.before.before.n.given.1 c.before.before.before.before.before.before.joined2.given, omega arith)
+put-requires c κs = (held_inside _ _ [] _ _ _ (c.before.before.before.before.before.before.before.join-loads.ensures c.before.before.before.before.before.before.before.before.before.before.before.before.before.before.before.before.before.before.before.requires.1.0 (figure_of c.before.before.before.before.before.before.before.before.before.before.before.before.before.before.before.before.before.before.before.requires.1.1) (parts_held _ _ c.before.before.before.before.before.before.before.before.before.before.before.before.before.before.before.before.before.before.before.args.indexes.now _ _ _ c.before.before.before.before.before.before.before.before.before.before.before.before.before.before.before.before.before.before.before.requires.1.0 c.before.before.before.before.before.before.before.before.before.before.before.before.before.before.before.before.before.before.before.requires.1.1 (λ i. omega (arith, c.before.before.before.before.before.before.before.before.before.before.before.before.before.before.before.before.before.shared-slice-known2.given i)) c.before.before.before.before.before.before.before.before.before.before.before.before.before.before.before.before.before.before.before.requires.0 c.before.before.before.before.before.before.before.before.before.before.before.before.before.before.before.before.before.before.before.requires.1.2 c.before.before.before.before.before.before.before.before.before.before.before.before.before.before.before.before.before.before.before.requires.1.3 c.before.before.before.before.before.before.before.before.before.before.before.before.before.before.before.before.before.before.before.requires.1.4 c.before.before.before.before.before.before.before.before.before.before.before.before.build-items.ensures)) _ c.before.before.before.before.n.given.1 c.before.before.before.before.before.before.joined2.given, omega arith)
 
 returns-3 : tie.Need-returns-3
-returns-3 c = λ f w z n k. held-put f w _ _ _ _ (c.before.before.before.before.before.before.before.before.before.before.before.join-loads.ensures f (figure_of w) (parts_held _ _ c.before.before.before.before.before.before.before.before.before.before.before.before.before.before.before.before.before.before.before.before.before.before.before.args.indexes.now _ _ _ f w (λ i. omega (arith, c.before.before.before.before.before.before.before.before.before.before.before.before.before.before.before.before.before.before.before.before.before.shared-slice-known2.given i)) c.before.before.before.before.before.before.before.before.before.before.before.before.before.before.before.before.before.before.before.before.before.before.before.requires.0 z n k c.before.before.before.before.before.before.before.before.before.before.before.before.before.before.before.before.build-items.ensures)) _ c.before.before.before.before.before.before.before.before.n.given.1 _ c.before.before.before.before.before.before.if1.false _ c.before.before.before.put.ensures c.accept.ensures
+returns-3 c = λ f w z n k. held_put f w _ _ _ _ (c.before.before.before.before.before.before.before.before.before.before.before.join-loads.ensures f (figure_of w) (parts_held _ _ c.before.before.before.before.before.before.before.before.before.before.before.before.before.before.before.before.before.before.before.before.before.before.before.args.indexes.now _ _ _ f w (λ i. omega (arith, c.before.before.before.before.before.before.before.before.before.before.before.before.before.before.before.before.before.before.before.before.before.shared-slice-known2.given i)) c.before.before.before.before.before.before.before.before.before.before.before.before.before.before.before.before.before.before.before.before.before.before.before.requires.0 z n k c.before.before.before.before.before.before.before.before.before.before.before.before.before.before.before.before.build-items.ensures)) _ c.before.before.before.before.before.before.before.before.n.given.1 _ c.before.before.before.before.before.before.if1.false _ c.before.before.before.put.ensures c.accept.ensures
 
 pub join-held-spec : {M : Type 1} → statement M
 join-held-spec =

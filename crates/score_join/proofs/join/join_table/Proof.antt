@@ -2,7 +2,7 @@ use mathlib.Core.List.{[]}
 use mathlib.Core.Path.{refl}
 use Rattle.tree_reader.proofs.Lookup.{zeros}
 use Rattle.format_translation.proofs.Accepted.{accepts}
-use Rattle.score_join.proofs.Answering.{join_refused, parts_checked, behind, join-accepted}
+use Rattle.score_join.proofs.Answering.{join_refused, parts_checked, behind, join_accepted}
 use borrow.Author.Rules.{rules}
 use Rattle.score_join.proofs.join.join_table.Statement.{statement}
 use Rattle.score_join.proofs.join.join_table.Tie as tie
@@ -34,7 +34,7 @@ join-parts-requires : tie.Need-join-parts-requires
 join-parts-requires c κs = let a = accepts _ c.before.before.before.before.before.before.before.before.before.check-kept.ensures.0 c.before.before.before.before.before.enum_told.given.1 in (behind c.before.before.before.before.before.before.before.before.before.check-kept.ensures.1.0 (c.before.before.before.before.before.before.before.before.before.check-kept.ensures.1.1 a.translation a.is).1 c.before.before.before.target-of.ensures, (a.translation, (parts_checked _ [] [] a.translation a.is c.before.before.before.before.source_of.ensures c.before.before.before.target-of.ensures c.before.body_of.ensures)))
 
 returns-2 : tie.Need-returns-2
-returns-2 c = let a = accepts _ c.before.before.before.before.before.before.before.before.before.before.before.before.check-kept.ensures.0 c.before.before.before.before.before.before.before.before.enum_told.given.1 in join-accepted _ _ _ a.translation a.is (c.before.before.join-parts.ensures a.translation (parts_checked _ [] [] a.translation a.is c.before.before.before.before.before.before.before.source_of.ensures c.before.before.before.before.before.before.target-of.ensures c.before.before.before.before.body_of.ensures))
+returns-2 c = let a = accepts _ c.before.before.before.before.before.before.before.before.before.before.before.before.check-kept.ensures.0 c.before.before.before.before.before.before.before.before.enum_told.given.1 in join_accepted _ _ _ a.translation a.is (c.before.before.join-parts.ensures a.translation (parts_checked _ [] [] a.translation a.is c.before.before.before.before.before.before.before.source_of.ensures c.before.before.before.before.before.before.target-of.ensures c.before.before.before.before.body_of.ensures))
 
 pub join-table-spec : {M : Type 1} → statement M
 join-table-spec =

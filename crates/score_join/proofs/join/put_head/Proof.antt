@@ -1,4 +1,4 @@
-use Rattle.score_join.proofs.Puts.{head_first, head-third, head-fourth, head_same, head-put}
+use Rattle.score_join.proofs.Puts.{head_first, head_third, head_fourth, head_same, head_put}
 use borrow.Author.Rules.{rules}
 use Rattle.score_join.proofs.join.put_head.Statement.{statement}
 use Rattle.score_join.proofs.join.put_head.Tie as tie
@@ -10,16 +10,16 @@ put-pair-requires : tie.Need-put-pair-requires
 put-pair-requires c κs = (c.before.before.requires.0, head_first c.before.before.args.size c.before.before.args.res c.before.before.args.name c.before.before.args.output.now c.before.before.args.pos c.before.before.requires.1)
 
 slice-write-output-2 : tie.Need-slice-write-output-2
-slice-write-output-2 c = head-third c.before.before.before.before.before.args.size c.before.before.before.before.before.args.res c.before.before.before.before.before.args.name c.before.before.before.before.before.args.output.now c.before.before.before.before.before.args.pos c.before.before.before.before.before.requires.1 _ c.before.before.put-pair.ensures
+slice-write-output-2 c = head_third c.before.before.before.before.before.args.size c.before.before.before.before.before.args.res c.before.before.before.before.before.args.name c.before.before.before.before.before.args.output.now c.before.before.before.before.before.args.pos c.before.before.before.before.before.requires.1 _ c.before.before.put-pair.ensures
 
 slice-write-output-3 : tie.Need-slice-write-output-3
-slice-write-output-3 c = head-fourth c.before.before.before.before.before.args.size c.before.before.before.before.before.args.res c.before.before.before.before.before.args.name c.before.before.before.before.before.args.output.now c.before.before.before.before.before.args.pos c.before.before.before.before.before.requires.1 _ c.before.before.put-pair.ensures
+slice-write-output-3 c = head_fourth c.before.before.before.before.before.args.size c.before.before.before.before.before.args.res c.before.before.before.before.before.args.name c.before.before.before.before.before.args.output.now c.before.before.before.before.before.args.pos c.before.before.before.before.before.requires.1 _ c.before.before.put-pair.ensures
 
 same_length : tie.Need-same-length
 same_length c = head_same c.before.before.before.before.before.args.size c.before.before.before.before.before.args.res c.before.before.before.before.before.args.name c.before.before.before.before.before.args.output.now c.before.before.before.before.before.args.pos c.before.before.before.before.before.requires.1 _ c.before.before.put-pair.ensures
 
 returns : tie.Need-returns
-returns c = head-put c.before.before.before.before.before.args.size c.before.before.before.before.before.args.res c.before.before.before.before.before.args.name c.before.before.before.before.before.args.output.now c.before.before.before.before.before.args.pos c.before.before.before.before.before.requires.1 _ c.before.before.put-pair.ensures
+returns c = head_put c.before.before.before.before.before.args.size c.before.before.before.before.before.args.res c.before.before.before.before.before.args.name c.before.before.before.before.before.args.output.now c.before.before.before.before.before.args.pos c.before.before.before.before.before.requires.1 _ c.before.before.put-pair.ensures
 
 pub put-head-spec : {M : Type 1} → statement M
 put-head-spec =

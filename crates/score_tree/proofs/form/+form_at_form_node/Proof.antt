@@ -14,8 +14,8 @@ use Rattle.score_tree.specs.Linear.{Loads}
 use Rattle.score_tree.specs.Inner.Terms.{all_bytes, NodeAsks}
 use Rattle.score_tree.proofs.Integers.{told}
 use Rattle.score_tree.proofs.Leaves.{asked_as}
-use Rattle.score_tree.proofs.Terms.{term_in, leaf_in, leaf_adds, name_in, node-left, node-asked, node-adds}
-use Rattle.score_tree.proofs.Walking.{Walking, adds_outside, node_in, figure_near, walk_begin, row-asked, row_in, operand, operand-asks, walk-outside, walk_next, walk-wide, walk_end}
+use Rattle.score_tree.proofs.Terms.{term_in, leaf_in, leaf_adds, name_in, node_left, node_asked, node_adds}
+use Rattle.score_tree.proofs.Walking.{Walking, adds_outside, node_in, figure_near, walk_begin, row_asked, row_in, operand, operand_asks, walk_outside, walk_next, walk_wide, walk_end}
 use Prim.Native.Nat.{ℕ, ◌<◌}
 use borrow.Fn.Kinds.{In}
 use borrow.Fn.PlainCycle.{Measures, is, falls, and}
@@ -86,13 +86,13 @@ form-at-add-form-node : (t : ℕ) → form-at-lts.Need-overflow-add-form-node (f
 form-at-add-form-node t c = let i = name_in c.before.before.before.before.before.before.before.before.before.before.requires.1.1.4 c.before.before.before.before.before.if1.false in omega (arith, i, c.before.before.before.before.before.before.before.before.before.before.well-formed.1.1.1.1.0.1)
 
 form-at-sub-form-node : (t : ℕ) → form-at-lts.Need-overflow-sub-form-node (form-at-calls t) (form-at-at t) form-at.Post
-form-at-sub-form-node t c = omega (arith, node-left c.before.before.before.before.before.before.before.before.before.before.requires.1.1.4 c.before.before.before.before.before.if1.false)
+form-at-sub-form-node t c = omega (arith, node_left c.before.before.before.before.before.before.before.before.before.before.requires.1.1.4 c.before.before.before.before.before.if1.false)
 
 form-at-form-node-requires : (t : ℕ) → form-at-lts.Need-form-node-requires (form-at-calls t) (form-at-at t) form-at.Post
-form-at-form-node-requires t c κs = (omega (arith, c.before.before.before.before.before.before.before.before.before.before.before.requires.0, node-left c.before.before.before.before.before.before.before.before.before.before.before.requires.1.1.4 c.before.before.before.before.before.before.if1.false), (asked_as (to_z-of_z c.before.before.before.before.before.before.before.before.before.before.before.ranges.factor) c.before.before.before.before.before.before.before.before.before.before.before.requires.1.0, (c.before.before.before.before.before.before.before.before.before.before.before.requires.1.1.0, c.before.before.before.before.before.before.before.before.before.before.before.requires.1.1.1, c.before.before.before.before.before.before.before.before.before.before.before.requires.1.1.2, _, _, _, _, node-asked c.before.before.before.before.before.before.before.before.before.before.before.requires.1.1.4 c.before.before.before.before.before.before.if1.false _ _ _ c.before.before.before.before.to-usize.ensures.0 c.before.before.before.before.to-usize.ensures.1 c.before.before.before.to-usize2.ensures.0 (c.before.place_at.ensures ∙ ap (λ (i : ℕ). get_or c.before.before.before.before.before.before.before.before.before.before.before.args.index.now i 0) c.before.before.production-key.ensures.0))))
+form-at-form-node-requires t c κs = (omega (arith, c.before.before.before.before.before.before.before.before.before.before.before.requires.0, node_left c.before.before.before.before.before.before.before.before.before.before.before.requires.1.1.4 c.before.before.before.before.before.before.if1.false), (asked_as (to_z-of_z c.before.before.before.before.before.before.before.before.before.before.before.ranges.factor) c.before.before.before.before.before.before.before.before.before.before.before.requires.1.0, (c.before.before.before.before.before.before.before.before.before.before.before.requires.1.1.0, c.before.before.before.before.before.before.before.before.before.before.before.requires.1.1.1, c.before.before.before.before.before.before.before.before.before.before.before.requires.1.1.2, _, _, _, _, node_asked c.before.before.before.before.before.before.before.before.before.before.before.requires.1.1.4 c.before.before.before.before.before.before.if1.false _ _ _ c.before.before.before.before.to-usize.ensures.0 c.before.before.before.before.to-usize.ensures.1 c.before.before.before.to-usize2.ensures.0 (c.before.place_at.ensures ∙ ap (λ (i : ℕ). get_or c.before.before.before.before.before.before.before.before.before.before.before.args.index.now i 0) c.before.before.production-key.ensures.0))))
 
 form-at-returns-2 : (t : ℕ) → form-at-lts.Need-returns-2 (form-at-calls t) (form-at-at t) form-at.Post
-form-at-returns-2 t c = λ l given w u a. node-adds a c.before.before.before.before.before.before.before.if1.false _ _ _ c.before.before.before.before.before.to-usize.ensures.0 c.before.before.before.before.before.to-usize.ensures.1 c.before.before.before.before.to-usize2.ensures.0 (c.before.before.place_at.ensures ∙ ap (λ (i : ℕ). get_or c.before.before.before.before.before.before.before.before.before.before.before.before.args.index.now i 0) c.before.before.before.production-key.ensures.0) (to_z-of_z c.before.before.before.before.before.before.before.before.before.before.before.before.ranges.factor) (c.form-node.ensures l given w _ _ _ _ (node-asked a c.before.before.before.before.before.before.before.if1.false _ _ _ c.before.before.before.before.before.to-usize.ensures.0 c.before.before.before.before.before.to-usize.ensures.1 c.before.before.before.before.to-usize2.ensures.0 (c.before.before.place_at.ensures ∙ ap (λ (i : ℕ). get_or c.before.before.before.before.before.before.before.before.before.before.before.before.args.index.now i 0) c.before.before.before.production-key.ensures.0)))
+form-at-returns-2 t c = λ l given w u a. node_adds a c.before.before.before.before.before.before.before.if1.false _ _ _ c.before.before.before.before.before.to-usize.ensures.0 c.before.before.before.before.before.to-usize.ensures.1 c.before.before.before.before.to-usize2.ensures.0 (c.before.before.place_at.ensures ∙ ap (λ (i : ℕ). get_or c.before.before.before.before.before.before.before.before.before.before.before.before.args.index.now i 0) c.before.before.before.production-key.ensures.0) (to_z-of_z c.before.before.before.before.before.before.before.before.before.before.before.before.ranges.factor) (c.form-node.ensures l given w _ _ _ _ (node_asked a c.before.before.before.before.before.before.before.if1.false _ _ _ c.before.before.before.before.before.to-usize.ensures.0 c.before.before.before.before.before.to-usize.ensures.1 c.before.before.before.before.to-usize2.ensures.0 (c.before.before.place_at.ensures ∙ ap (λ (i : ℕ). get_or c.before.before.before.before.before.before.before.before.before.before.before.before.args.index.now i 0) c.before.before.before.production-key.ensures.0)))
 
 abbrev form-node-Inv-loop : form-node-lts.invariant-loop
 form-node-Inv-loop language index figures production bytes at left factor count sum stop row₀ q₀ to₀ row q to =
@@ -137,10 +137,10 @@ form-node-shared-slice-copy-out-form-at :
 form-node-shared-slice-copy-out-form-at t c = let i = row_in c.before.before.before.before.before.before.before.before.before.before.requires.1.1.7 (c.before.before.loop.invariant _ _ _ _ _ _ _ c.before.before.before.before.before.before.before.before.before.before.requires.1.1.7) c.before.loop-test.true in let m = node_in c.before.before.before.before.before.before.before.before.before.before.requires.1.1.7 in omega (arith, i.1, m.2)
 
 form-node-form-at-requires : (t : ℕ) → form-node-lts.Need-form-at-requires (form-node-calls t) (form-node-at t) form-node.Post form-node-Inv-loop form-node-μ-loop
-form-node-form-at-requires t c κs = (omega (arith, c.before.before.before.before.before.before.before.before.before.before.before.before.requires.0), (row-asked c.before.before.before.before.before.before.before.before.before.before.before.before.requires.1.1.7 (c.before.before.before.before.loop.invariant _ _ _ _ _ _ _ c.before.before.before.before.before.before.before.before.before.before.before.before.requires.1.1.7) c.before.before.before.before.before.before.before.before.before.before.before.before.requires.1.0 _ (figure_near c.before.before.before.before.before.before.before.before.before.before.before.before.requires.1.1.7 _), (c.before.before.before.before.before.before.before.before.before.before.before.before.requires.1.1.0, c.before.before.before.before.before.before.before.before.before.before.before.before.requires.1.1.1, c.before.before.before.before.before.before.before.before.before.before.before.before.requires.1.1.2, operand c.before.before.before.before.before.before.before.before.before.before.before.before.requires.1.1.7 (c.before.before.before.before.loop.invariant _ _ _ _ _ _ _ c.before.before.before.before.before.before.before.before.before.before.before.before.requires.1.1.7) c.before.before.before.loop-test.true, operand-asks c.before.before.before.before.before.before.before.before.before.before.before.before.requires.1.1.7 (c.before.before.before.before.loop.invariant _ _ _ _ _ _ _ c.before.before.before.before.before.before.before.before.before.before.before.before.requires.1.1.7) c.before.before.before.loop-test.true)))
+form-node-form-at-requires t c κs = (omega (arith, c.before.before.before.before.before.before.before.before.before.before.before.before.requires.0), (row_asked c.before.before.before.before.before.before.before.before.before.before.before.before.requires.1.1.7 (c.before.before.before.before.loop.invariant _ _ _ _ _ _ _ c.before.before.before.before.before.before.before.before.before.before.before.before.requires.1.1.7) c.before.before.before.before.before.before.before.before.before.before.before.before.requires.1.0 _ (figure_near c.before.before.before.before.before.before.before.before.before.before.before.before.requires.1.1.7 _), (c.before.before.before.before.before.before.before.before.before.before.before.before.requires.1.1.0, c.before.before.before.before.before.before.before.before.before.before.before.before.requires.1.1.1, c.before.before.before.before.before.before.before.before.before.before.before.before.requires.1.1.2, operand c.before.before.before.before.before.before.before.before.before.before.before.before.requires.1.1.7 (c.before.before.before.before.loop.invariant _ _ _ _ _ _ _ c.before.before.before.before.before.before.before.before.before.before.before.before.requires.1.1.7) c.before.before.before.loop-test.true, operand_asks c.before.before.before.before.before.before.before.before.before.before.before.before.requires.1.1.7 (c.before.before.before.before.loop.invariant _ _ _ _ _ _ _ c.before.before.before.before.before.before.before.before.before.before.before.before.requires.1.1.7) c.before.before.before.loop-test.true)))
 
 form-node-returns : (t : ℕ) → form-node-lts.Need-returns (form-node-calls t) (form-node-at t) form-node.Post form-node-Inv-loop form-node-μ-loop
-form-node-returns t c = λ l given w k p ts ks a. adds_outside (walk-outside a (c.before.before.before.before.before.before.before.loop.invariant l given w k p ts ks a) c.before.before.before.before.before.before.loop-test.true (c.before.before.form-at.ensures l given w _ (operand-asks a (c.before.before.before.before.before.before.before.loop.invariant l given w k p ts ks a) c.before.before.before.before.before.before.loop-test.true)) c.enum_told.given.1)
+form-node-returns t c = λ l given w k p ts ks a. adds_outside (walk_outside a (c.before.before.before.before.before.before.before.loop.invariant l given w k p ts ks a) c.before.before.before.before.before.before.loop-test.true (c.before.before.form-at.ensures l given w _ (operand_asks a (c.before.before.before.before.before.before.before.loop.invariant l given w k p ts ks a) c.before.before.before.before.before.before.loop-test.true)) c.enum_told.given.1)
 
 form-node-add-q : (t : ℕ) → form-node-lts.Need-overflow-add-q (form-node-calls t) (form-node-at t) form-node.Post form-node-Inv-loop form-node-μ-loop
 form-node-add-q t c = let i = row_in c.before.before.before.before.before.before.before.before.before.before.before.before.before.before.before.before.requires.1.1.7 (c.before.before.before.before.before.before.before.before.loop.invariant _ _ _ _ _ _ _ c.before.before.before.before.before.before.before.before.before.before.before.before.before.before.before.before.requires.1.1.7) c.before.before.before.before.before.before.before.loop-test.true in omega (arith, i.1)
@@ -149,13 +149,13 @@ form-node-loop-less : (t : ℕ) → form-node-lts.Need-loop-smaller (form-node-c
 form-node-loop-less t c = omega (arith, c.before.before.before.before.before.before.before.loop-test.true)
 
 form-node-loop-again : (t : ℕ) → form-node-lts.Need-loop-preserved (form-node-calls t) (form-node-at t) form-node.Post form-node-Inv-loop form-node-μ-loop
-form-node-loop-again t c = λ l given w k p ts ks a. walk_next a (c.before.before.before.before.before.before.before.before.loop.invariant l given w k p ts ks a) c.before.before.before.before.before.before.before.loop-test.true (c.before.before.before.form-at.ensures l given w _ (operand-asks a (c.before.before.before.before.before.before.before.before.loop.invariant l given w k p ts ks a) c.before.before.before.before.before.before.before.loop-test.true)) _ c.before.e.given.1 refl
+form-node-loop-again t c = λ l given w k p ts ks a. walk_next a (c.before.before.before.before.before.before.before.before.loop.invariant l given w k p ts ks a) c.before.before.before.before.before.before.before.loop-test.true (c.before.before.before.form-at.ensures l given w _ (operand_asks a (c.before.before.before.before.before.before.before.before.loop.invariant l given w k p ts ks a) c.before.before.before.before.before.before.before.loop-test.true)) _ c.before.e.given.1 refl
 
 form-node-add-row-requires : (t : ℕ) → form-node-lts.Need-add-row-requires (form-node-calls t) (form-node-at t) form-node.Post form-node-Inv-loop form-node-μ-loop
-form-node-add-row-requires t c κs = (row-asked c.before.before.before.before.before.before.before.before.before.before.before.requires.1.1.7 (c.before.before.before.loop.invariant _ _ _ _ _ _ _ c.before.before.before.before.before.before.before.before.before.before.before.requires.1.1.7) c.before.before.before.before.before.before.before.before.before.before.before.requires.1.0 _ (rw (to_z-of_z c.before.before.before.before.before.before.before.before.before.before.before.ranges.factor) c.before.before.before.before.before.before.before.before.before.before.before.requires.1.0.small), asked_as (to_z-of_z c.before.before.before.before.before.before.before.before.before.before.before.ranges.factor) c.before.before.before.before.before.before.before.before.before.before.before.requires.1.0)
+form-node-add-row-requires t c κs = (row_asked c.before.before.before.before.before.before.before.before.before.before.before.requires.1.1.7 (c.before.before.before.loop.invariant _ _ _ _ _ _ _ c.before.before.before.before.before.before.before.before.before.before.before.requires.1.1.7) c.before.before.before.before.before.before.before.before.before.before.before.requires.1.0 _ (rw (to_z-of_z c.before.before.before.before.before.before.before.before.before.before.before.ranges.factor) c.before.before.before.before.before.before.before.before.before.before.before.requires.1.0.small), asked_as (to_z-of_z c.before.before.before.before.before.before.before.before.before.before.before.ranges.factor) c.before.before.before.before.before.before.before.before.before.before.before.requires.1.0)
 
 form-node-returns-2 : (t : ℕ) → form-node-lts.Need-returns-2 (form-node-calls t) (form-node-at t) form-node.Post form-node-Inv-loop form-node-μ-loop
-form-node-returns-2 t c = λ l given w k p ts ks a. adds_outside (walk-wide a (c.before.before.before.before.before.loop.invariant l given w k p ts ks a) c.before.before.before.before.loop-test.false c.before.add_row.ensures (not-true _ c.if1.true))
+form-node-returns-2 t c = λ l given w k p ts ks a. adds_outside (walk_wide a (c.before.before.before.before.before.loop.invariant l given w k p ts ks a) c.before.before.before.before.loop-test.false c.before.add_row.ensures (not-true _ c.if1.true))
 
 form-node-returns-3 : (t : ℕ) → form-node-lts.Need-returns-3 (form-node-calls t) (form-node-at t) form-node.Post form-node-Inv-loop form-node-μ-loop
 form-node-returns-3 t c = λ l given w k p ts ks a. walk_end a (c.before.before.before.before.before.loop.invariant l given w k p ts ks a) c.before.before.before.before.loop-test.false c.before.add_row.ensures (to_z-of_z c.before.before.before.before.before.before.before.before.before.before.before.before.before.ranges.factor) (not-false _ c.if1.false)

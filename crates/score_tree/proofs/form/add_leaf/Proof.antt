@@ -3,7 +3,7 @@ use native.Mathlib.Omega.{arith}
 use mir.Syntax.{w64}
 use mir.Facts.{to_z-of_z}
 use Rattle.score_tree.proofs.Integers.{told}
-use Rattle.score_tree.proofs.Leaves.{place_back, place_near, token_in, leaf_in, leaf_token, leaf_argument, leaf-past}
+use Rattle.score_tree.proofs.Leaves.{place_back, place_near, token_in, leaf_in, leaf_token, leaf_argument, leaf_past}
 use borrow.Author.Rules.{rules}
 use Rattle.score_tree.proofs.form.add_leaf.Statement.{statement}
 use Rattle.score_tree.proofs.form.add_leaf.Tie as tie
@@ -30,7 +30,7 @@ shared-slice-read-to-usize : tie.Need-shared-slice-read-to-usize
 shared-slice-read-to-usize c = let i = leaf_in _ _ c.before.before.before.before.requires.0 in omega arith
 
 returns-2 : tie.Need-returns-2
-returns-2 c = leaf-past _ _ c.before.before.before.if1.false _ c.before.to-usize.ensures.0 c.if2.true
+returns-2 c = leaf_past _ _ c.before.before.before.if1.false _ c.before.to-usize.ensures.0 c.if2.true
 
 add-scaled-requires-2 : tie.Need-add-scaled-requires-2
 add-scaled-requires-2 c κs = (place_near c.before.before.before.before.before.before.before.requires.1 _, rw (to_z-of_z c.before.before.before.before.before.before.before.ranges.factor) c.before.before.before.before.before.before.before.requires.1.small, omega arith)

@@ -2,7 +2,7 @@ use mathlib.Core.Path.{refl}
 use native.Mathlib.Omega.{arith}
 use Rattle.tree_reader.proofs.Lookup.{zeros}
 use Rattle.score_tree.proofs.Plans.{ends_back}
-use Rattle.score_tree.proofs.Answering.{world_is, kind_deep, kind_broken, kind-more, kind-ends, kind-out-more, kind_out}
+use Rattle.score_tree.proofs.Answering.{world_is, kind_deep, kind_broken, kind_more, kind_ends, kind_out_more, kind_out}
 use borrow.Author.Rules.{rules}
 use Rattle.score_tree.proofs.plan.score_kind.Statement.{statement}
 use Rattle.score_tree.proofs.plan.score_kind.Tie as tie
@@ -17,13 +17,13 @@ ends-at-requires : tie.Need-ends-at-requires
 ends-at-requires c κs = (c.before.before.before.before.before.before.requires.0, omega arith, (c.before.before.before.before.before.before.requires.1.0, _, (world_is _ _ c.before.before.before.before.before.before.requires.1.0 c.before.before.before.before.before.before.requires.1.1 (λ i. omega (arith, c.before.before.before.before.before.shared-slice-known.given i)) c.before.before.before.before.before.before.requires.1.2 _ _ refl (zeros 8224) c.before.before.put_all.ensures)))
 
 returns : tie.Need-returns
-returns c = λ l w h. kind-more _ l w _ c.before.before.before.before.before.before.before.before.before.before.before.before.args.tree.now _ (c.before.before.before.before.before.ends_at.ensures.0 l _ (world_is _ _ l w (λ i. omega (arith, c.before.before.before.before.before.before.before.before.before.before.before.shared-slice-known.given i)) h _ _ refl (zeros 8224) c.before.before.before.before.before.before.before.before.put_all.ensures)) _ _ _ c.before.before.before.low.given.1 c.before.if1.true c.refuse.ensures
+returns c = λ l w h. kind_more _ l w _ c.before.before.before.before.before.before.before.before.before.before.before.before.args.tree.now _ (c.before.before.before.before.before.ends_at.ensures.0 l _ (world_is _ _ l w (λ i. omega (arith, c.before.before.before.before.before.before.before.before.before.before.before.shared-slice-known.given i)) h _ _ refl (zeros 8224) c.before.before.before.before.before.before.before.before.put_all.ensures)) _ _ _ c.before.before.before.low.given.1 c.before.if1.true c.refuse.ensures
 
 returns-2 : tie.Need-returns-2
-returns-2 c = λ l w h. kind-out-more _ l w _ c.before.before.before.before.before.before.before.before.before.before.before.before.args.tree.now _ (c.before.before.before.before.before.ends_at.ensures.0 l _ (world_is _ _ l w (λ i. omega (arith, c.before.before.before.before.before.before.before.before.before.before.before.shared-slice-known.given i)) h _ _ refl (zeros 8224) c.before.before.before.before.before.before.before.before.put_all.ensures)) _ c.before.before.before.e.given.1 c.before.if2.true c.refuse2.ensures
+returns-2 c = λ l w h. kind_out_more _ l w _ c.before.before.before.before.before.before.before.before.before.before.before.before.args.tree.now _ (c.before.before.before.before.before.ends_at.ensures.0 l _ (world_is _ _ l w (λ i. omega (arith, c.before.before.before.before.before.before.before.before.before.before.before.shared-slice-known.given i)) h _ _ refl (zeros 8224) c.before.before.before.before.before.before.before.before.put_all.ensures)) _ c.before.before.before.e.given.1 c.before.if2.true c.refuse2.ensures
 
 returns-3 : tie.Need-returns-3
-returns-3 c = λ l w h. kind-ends _ l w _ c.before.before.before.before.before.before.before.before.before.before.before.before.args.tree.now _ (c.before.before.before.before.before.ends_at.ensures.0 l _ (world_is _ _ l w (λ i. omega (arith, c.before.before.before.before.before.before.before.before.before.before.before.shared-slice-known.given i)) h _ _ refl (zeros 8224) c.before.before.before.before.before.before.before.before.put_all.ensures)) _ _ _ c.before.before.before.low.given.1 c.before.if1.false _ _ (ends_back _ _ _ _ c.before.before.before.before.before.ends_at.ensures.1 c.before.before.before.low.given.1).0 (ends_back _ _ _ _ c.before.before.before.before.before.ends_at.ensures.1 c.before.before.before.low.given.1).1 c.accept.ensures
+returns-3 c = λ l w h. kind_ends _ l w _ c.before.before.before.before.before.before.before.before.before.before.before.before.args.tree.now _ (c.before.before.before.before.before.ends_at.ensures.0 l _ (world_is _ _ l w (λ i. omega (arith, c.before.before.before.before.before.before.before.before.before.before.before.shared-slice-known.given i)) h _ _ refl (zeros 8224) c.before.before.before.before.before.before.before.before.put_all.ensures)) _ _ _ c.before.before.before.low.given.1 c.before.if1.false _ _ (ends_back _ _ _ _ c.before.before.before.before.before.ends_at.ensures.1 c.before.before.before.low.given.1).0 (ends_back _ _ _ _ c.before.before.before.before.before.ends_at.ensures.1 c.before.before.before.low.given.1).1 c.accept.ensures
 
 returns-4 : tie.Need-returns-4
 returns-4 c = λ l w h. kind_out _ l w _ c.before.before.before.before.before.before.before.before.before.before.before.before.args.tree.now _ (c.before.before.before.before.before.ends_at.ensures.0 l _ (world_is _ _ l w (λ i. omega (arith, c.before.before.before.before.before.before.before.before.before.before.before.shared-slice-known.given i)) h _ _ refl (zeros 8224) c.before.before.before.before.before.before.before.before.put_all.ensures)) _ c.before.before.before.e.given.1 c.before.if2.false c.refuse3.ensures

@@ -2,7 +2,7 @@ use mathlib.Core.List.{[]}
 use borrow.Author.Rules.{rules}
 use borrow.Author.Tests.{not-true, not-false}
 use Rattle.check_operations.proofs.Opening.{accepts}
-use Rattle.score_tree.proofs.Answering.{language_refused, none_held, rising_entries, table_broken, root-out, ground-accepted, ground-held}
+use Rattle.score_tree.proofs.Answering.{language_refused, none_held, rising_entries, table_broken, root_out, ground_accepted, ground_held}
 use Rattle.score_tree.proofs.prepare.prepare.Statement.{statement}
 use Rattle.score_tree.proofs.prepare.prepare.Tie as tie
 use Rattle.score_tree.proofs.prepare.prepare.Reads as reads
@@ -24,10 +24,10 @@ is-root-requires : tie.Need-is-root-requires
 is-root-requires c κs = ((accepts _ c.before.before.before.before.before.before.check-language.ensures c.before.before.before.before.enum_told.given.1).language, (accepts _ c.before.before.before.before.before.before.check-language.ensures c.before.before.before.before.enum_told.given.1).entries)
 
 returns-3 : tie.Need-returns-3
-returns-3 c = let e = root-out c.before.before.before.before.before.before.before.before.before.before.before.args.language.now c.before.before.before.before.before.before.before.before.before.before.before.args.root c.before.before.before.before.before.before.before.before.before.before.before.args.table.now (accepts _ c.before.before.before.before.before.before.before.before.check-language.ensures c.before.before.before.before.before.before.enum_told.given.1) (c.before.before.before.before.read_table.ensures.0 _ (accepts _ c.before.before.before.before.before.before.before.before.check-language.ensures c.before.before.before.before.before.before.enum_told.given.1).entries) (not-false _ c.before.before.if1.false) (c.before.is-root.ensures _ (accepts _ c.before.before.before.before.before.before.before.before.check-language.ensures c.before.before.before.before.before.before.enum_told.given.1).entries) (not-true _ c.if2.true) in (e, none_held _ _ _ e)
+returns-3 c = let e = root_out c.before.before.before.before.before.before.before.before.before.before.before.args.language.now c.before.before.before.before.before.before.before.before.before.before.before.args.root c.before.before.before.before.before.before.before.before.before.before.before.args.table.now (accepts _ c.before.before.before.before.before.before.before.before.check-language.ensures c.before.before.before.before.before.before.enum_told.given.1) (c.before.before.before.before.read_table.ensures.0 _ (accepts _ c.before.before.before.before.before.before.before.before.check-language.ensures c.before.before.before.before.before.before.enum_told.given.1).entries) (not-false _ c.before.before.if1.false) (c.before.is-root.ensures _ (accepts _ c.before.before.before.before.before.before.before.before.check-language.ensures c.before.before.before.before.before.before.enum_told.given.1).entries) (not-true _ c.if2.true) in (e, none_held _ _ _ e)
 
 returns-4 : tie.Need-returns-4
-returns-4 c = (ground-accepted c.before.before.before.before.before.before.before.before.before.before.before.args.language.now c.before.before.before.before.before.before.before.before.before.before.before.args.root c.before.before.before.before.before.before.before.before.before.before.before.args.table.now (accepts _ c.before.before.before.before.before.before.before.before.check-language.ensures c.before.before.before.before.before.before.enum_told.given.1) (c.before.before.before.before.read_table.ensures.0 _ (accepts _ c.before.before.before.before.before.before.before.before.check-language.ensures c.before.before.before.before.before.before.enum_told.given.1).entries) (not-false _ c.before.before.if1.false) (c.before.is-root.ensures _ (accepts _ c.before.before.before.before.before.before.before.before.check-language.ensures c.before.before.before.before.before.before.enum_told.given.1).entries) (not-false _ c.if2.false), ground-held _ _ _ (accepts _ c.before.before.before.before.before.before.before.before.check-language.ensures c.before.before.before.before.before.before.enum_told.given.1) (c.before.before.before.before.read_table.ensures.0 _ (accepts _ c.before.before.before.before.before.before.before.before.check-language.ensures c.before.before.before.before.before.before.enum_told.given.1).entries) (not-false _ c.before.before.if1.false) (c.before.is-root.ensures _ (accepts _ c.before.before.before.before.before.before.before.before.check-language.ensures c.before.before.before.before.before.before.enum_told.given.1).entries) (not-false _ c.if2.false) _ c.before.before.before.before.read_table.ensures.1)
+returns-4 c = (ground_accepted c.before.before.before.before.before.before.before.before.before.before.before.args.language.now c.before.before.before.before.before.before.before.before.before.before.before.args.root c.before.before.before.before.before.before.before.before.before.before.before.args.table.now (accepts _ c.before.before.before.before.before.before.before.before.check-language.ensures c.before.before.before.before.before.before.enum_told.given.1) (c.before.before.before.before.read_table.ensures.0 _ (accepts _ c.before.before.before.before.before.before.before.before.check-language.ensures c.before.before.before.before.before.before.enum_told.given.1).entries) (not-false _ c.before.before.if1.false) (c.before.is-root.ensures _ (accepts _ c.before.before.before.before.before.before.before.before.check-language.ensures c.before.before.before.before.before.before.enum_told.given.1).entries) (not-false _ c.if2.false), ground_held _ _ _ (accepts _ c.before.before.before.before.before.before.before.before.check-language.ensures c.before.before.before.before.before.before.enum_told.given.1) (c.before.before.before.before.read_table.ensures.0 _ (accepts _ c.before.before.before.before.before.before.before.before.check-language.ensures c.before.before.before.before.before.before.enum_told.given.1).entries) (not-false _ c.before.before.if1.false) (c.before.is-root.ensures _ (accepts _ c.before.before.before.before.before.before.before.before.check-language.ensures c.before.before.before.before.before.before.enum_told.given.1).entries) (not-false _ c.if2.false) _ c.before.before.before.before.read_table.ensures.1)
 
 pub prepare-spec : {M : Type 1} → statement M
 prepare-spec =

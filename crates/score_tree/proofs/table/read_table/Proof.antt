@@ -2,7 +2,7 @@ use Prim.Native.Nat.{◌-◌}
 use mathlib.Core.Path.{sym, ◌∙◌}
 use native.Mathlib.Omega.{arith}
 use lib.ListN.{length}
-use Rattle.score_tree.proofs.Loading.{Loading, load_begin, entry_in, load_class, load-broken, load-room, load-next, broken_is, broken_kept, end_is, end_kept}
+use Rattle.score_tree.proofs.Loading.{Loading, load_begin, entry_in, load_class, load_broken, load_room, load_next, broken_is, broken_kept, end_is, end_kept}
 use Rattle.score_tree.proofs.table.read_table.Statement.{statement}
 use Rattle.score_tree.proofs.table.read_table.Tie as tie
 use Rattle.score_tree.proofs.table.read_table.Reads as reads
@@ -33,28 +33,28 @@ same_length : tie.Need-same-length invariant-loop decreases-loop
 same_length c = c.before.before.before.before.before.before.loop.invariant.long ∙ sym c.before.before.before.before.before.before.before.before.before.requires.2
 
 returns : tie.Need-returns invariant-loop decreases-loop
-returns c = let b = load-broken _ _ _ _ _ c.before.before.before.before.before.before.loop.invariant c.before.before.before.before.before.loop-test.true c.before.before.if1.true _ c.before.load-end.ensures c.if2.true in (broken_is _ _ b, broken_kept _ _ _ b)
+returns c = let b = load_broken _ _ _ _ _ c.before.before.before.before.before.before.loop.invariant c.before.before.before.before.before.loop-test.true c.before.before.if1.true _ c.before.load-end.ensures c.if2.true in (broken_is _ _ b, broken_kept _ _ _ b)
 
 add-put-figures : tie.Need-overflow-add-put-figures invariant-loop decreases-loop
-add-put-figures c = let r = load-room _ _ _ _ _ c.before.before.before.before.before.before.loop.invariant c.before.before.before.before.before.loop-test.true c.before.before.if1.true _ c.before.load-end.ensures c.if2.false in let i = entry_in _ _ _ _ _ c.before.before.before.before.before.before.loop.invariant c.before.before.before.before.before.loop-test.true in omega (arith, r.1, c.before.before.before.before.before.before.before.before.before.well-formed)
+add-put-figures c = let r = load_room _ _ _ _ _ c.before.before.before.before.before.before.loop.invariant c.before.before.before.before.before.loop-test.true c.before.before.if1.true _ c.before.load-end.ensures c.if2.false in let i = entry_in _ _ _ _ _ c.before.before.before.before.before.before.loop.invariant c.before.before.before.before.before.loop-test.true in omega (arith, r.1, c.before.before.before.before.before.before.before.before.before.well-formed)
 
 add-put-figures-2 : tie.Need-overflow-add-put-figures-2 invariant-loop decreases-loop
-add-put-figures-2 c = let r = load-room _ _ _ _ _ c.before.before.before.before.before.before.before.loop.invariant c.before.before.before.before.before.before.loop-test.true c.before.before.before.if1.true _ c.before.before.load-end.ensures c.before.if2.false in let i = entry_in _ _ _ _ _ c.before.before.before.before.before.before.before.loop.invariant c.before.before.before.before.before.before.loop-test.true in omega (arith, i.0, i.1, c.before.before.before.before.before.before.before.before.before.before.requires.1)
+add-put-figures-2 c = let r = load_room _ _ _ _ _ c.before.before.before.before.before.before.before.loop.invariant c.before.before.before.before.before.before.loop-test.true c.before.before.before.if1.true _ c.before.before.load-end.ensures c.before.if2.false in let i = entry_in _ _ _ _ _ c.before.before.before.before.before.before.before.loop.invariant c.before.before.before.before.before.before.loop-test.true in omega (arith, i.0, i.1, c.before.before.before.before.before.before.before.before.before.before.requires.1)
 
 sub-put-figures : tie.Need-overflow-sub-put-figures invariant-loop decreases-loop
-sub-put-figures c = let r = load-room _ _ _ _ _ c.before.before.before.before.before.before.before.loop.invariant c.before.before.before.before.before.before.loop-test.true c.before.before.before.if1.true _ c.before.before.load-end.ensures c.before.if2.false in let i = entry_in _ _ _ _ _ c.before.before.before.before.before.before.before.loop.invariant c.before.before.before.before.before.before.loop-test.true in omega (arith, i.0, c.before.before.before.before.before.whole-end.ensures.is)
+sub-put-figures c = let r = load_room _ _ _ _ _ c.before.before.before.before.before.before.before.loop.invariant c.before.before.before.before.before.before.loop-test.true c.before.before.before.if1.true _ c.before.before.load-end.ensures c.before.if2.false in let i = entry_in _ _ _ _ _ c.before.before.before.before.before.before.before.loop.invariant c.before.before.before.before.before.before.loop-test.true in omega (arith, i.0, c.before.before.before.before.before.whole-end.ensures.is)
 
 sub-put-figures-2 : tie.Need-overflow-sub-put-figures-2 invariant-loop decreases-loop
-sub-put-figures-2 c = let r = load-room _ _ _ _ _ c.before.before.before.before.before.before.before.loop.invariant c.before.before.before.before.before.before.loop-test.true c.before.before.before.if1.true _ c.before.before.load-end.ensures c.before.if2.false in let i = entry_in _ _ _ _ _ c.before.before.before.before.before.before.before.loop.invariant c.before.before.before.before.before.before.loop-test.true in omega (arith, i.0, c.before.before.before.before.before.whole-end.ensures.is)
+sub-put-figures-2 c = let r = load_room _ _ _ _ _ c.before.before.before.before.before.before.before.loop.invariant c.before.before.before.before.before.before.loop-test.true c.before.before.before.if1.true _ c.before.before.load-end.ensures c.before.if2.false in let i = entry_in _ _ _ _ _ c.before.before.before.before.before.before.before.loop.invariant c.before.before.before.before.before.before.loop-test.true in omega (arith, i.0, c.before.before.before.before.before.whole-end.ensures.is)
 
 put-figures-requires : tie.Need-put-figures-requires invariant-loop decreases-loop
-put-figures-requires c κs = let r = load-room _ _ _ _ _ c.before.before.before.before.before.before.before.loop.invariant c.before.before.before.before.before.before.loop-test.true c.before.before.before.if1.true _ c.before.before.load-end.ensures c.before.if2.false in let i = entry_in _ _ _ _ _ c.before.before.before.before.before.before.before.loop.invariant c.before.before.before.before.before.before.loop-test.true in (omega (arith, r.0, c.before.before.before.before.before.whole-end.ensures.is), omega (arith, i.0, i.1, c.before.before.before.before.before.before.before.before.before.before.requires.1, c.before.before.before.before.before.before.before.loop.invariant.long, c.before.before.before.before.before.whole-end.ensures.is), c.before.before.before.before.before.before.before.loop.invariant.long)
+put-figures-requires c κs = let r = load_room _ _ _ _ _ c.before.before.before.before.before.before.before.loop.invariant c.before.before.before.before.before.before.loop-test.true c.before.before.before.if1.true _ c.before.before.load-end.ensures c.before.if2.false in let i = entry_in _ _ _ _ _ c.before.before.before.before.before.before.before.loop.invariant c.before.before.before.before.before.before.loop-test.true in (omega (arith, r.0, c.before.before.before.before.before.whole-end.ensures.is), omega (arith, i.0, i.1, c.before.before.before.before.before.before.before.before.before.before.requires.1, c.before.before.before.before.before.before.before.loop.invariant.long, c.before.before.before.before.before.whole-end.ensures.is), c.before.before.before.before.before.before.before.loop.invariant.long)
 
 loop-less : tie.Need-loop-smaller invariant-loop decreases-loop
 loop-less c = let i = entry_in _ _ _ _ _ c.before.before.before.before.before.before.before.before.before.loop.invariant c.before.before.before.before.before.before.before.before.loop-test.true in omega (arith, i.0, i.1, c.before.before.before.before.before.before.before.whole-end.ensures.is)
 
 loop-again : tie.Need-loop-preserved invariant-loop decreases-loop
-loop-again c = load-next _ _ _ _ _ c.before.before.before.before.before.before.before.before.before.loop.invariant c.before.before.before.before.before.before.before.before.loop-test.true c.before.before.before.before.before.if1.true _ c.before.before.before.before.load-end.ensures c.before.before.before.if2.false _ c.before.before.before.before.before.before.before.whole-end.ensures.is _ c.before.put-figures.ensures
+loop-again c = load_next _ _ _ _ _ c.before.before.before.before.before.before.before.before.before.loop.invariant c.before.before.before.before.before.before.before.before.loop-test.true c.before.before.before.before.before.if1.true _ c.before.before.before.before.load-end.ensures c.before.before.before.if2.false _ c.before.before.before.before.before.before.before.whole-end.ensures.is _ c.before.put-figures.ensures
 
 loop-less-2 : tie.Need-loop-smaller-2 invariant-loop decreases-loop
 loop-less-2 c = let i = entry_in _ _ _ _ _ c.before.before.before.before.loop.invariant c.before.before.before.loop-test.true in omega (arith, i.0, i.1, c.before.before.whole-end.ensures.is)

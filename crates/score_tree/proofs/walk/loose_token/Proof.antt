@@ -2,7 +2,7 @@ use mathlib.Core.Path.{sym, ◌∙◌}
 use mir.Syntax.{w64}
 use borrow.Author.Tests.{not-true, not-false}
 use Rattle.score_tree.proofs.Integers.{told}
-use Rattle.score_tree.proofs.Plans.{pair_short, pair_first, pair_second, pair-order, pair-good, value_near}
+use Rattle.score_tree.proofs.Plans.{pair_short, pair_first, pair_second, pair_order, pair_good, value_near}
 use borrow.Author.Rules.{rules}
 use Rattle.score_tree.proofs.walk.loose_token.Statement.{statement}
 use Rattle.score_tree.proofs.walk.loose_token.Tie as tie
@@ -22,10 +22,10 @@ returns-3 : tie.Need-returns-3
 returns-3 c = (pair_second _ c.before.before.before.before.before.before.before.before.before.args.bytes.now c.before.before.before.before.before.before.before.before.before.args.at c.before.before.before.before.before.before.if1.false _ _ c.before.before.before.before.before.pair-in.ensures.0 c.before.before.before.before.pair-in2.ensures.0 (sym c.before.before.before.in-range.ensures ∙ not-false _ c.before.before.if2.false) (sym c.before.in-range2.ensures ∙ not-true _ c.if3.true), tt)
 
 returns-4 : tie.Need-returns-4
-returns-4 c = (pair-order _ c.before.before.before.before.before.before.before.before.before.before.args.bytes.now c.before.before.before.before.before.before.before.before.before.before.args.at c.before.before.before.before.before.before.before.if1.false _ _ c.before.before.before.before.before.before.pair-in.ensures.0 c.before.before.before.before.before.pair-in2.ensures.0 (sym c.before.before.before.before.in-range.ensures ∙ not-false _ c.before.before.before.if2.false) (sym c.before.before.in-range2.ensures ∙ not-false _ c.before.if3.false) c.if4.true, tt)
+returns-4 c = (pair_order _ c.before.before.before.before.before.before.before.before.before.before.args.bytes.now c.before.before.before.before.before.before.before.before.before.before.args.at c.before.before.before.before.before.before.before.if1.false _ _ c.before.before.before.before.before.before.pair-in.ensures.0 c.before.before.before.before.before.pair-in2.ensures.0 (sym c.before.before.before.before.in-range.ensures ∙ not-false _ c.before.before.before.if2.false) (sym c.before.before.in-range2.ensures ∙ not-false _ c.before.if3.false) c.if4.true, tt)
 
 returns-5 : tie.Need-returns-5
-returns-5 c = (pair-good _ c.before.before.before.before.before.before.before.before.before.before.before.before.args.bytes.now c.before.before.before.before.before.before.before.before.before.before.before.before.args.at c.before.before.before.before.before.before.before.before.before.if1.false _ _ c.before.before.before.before.before.before.before.before.pair-in.ensures.0 c.before.before.before.before.before.before.before.pair-in2.ensures.0 (sym c.before.before.before.before.before.before.in-range.ensures ∙ not-false _ c.before.before.before.before.before.if2.false) (sym c.before.before.before.before.in-range2.ensures ∙ not-false _ c.before.before.before.if3.false) c.before.before.if4.false _ _ (told w64 c.before.score-of.result c.before.score-of.type-inv ∙ c.before.score-of.ensures) (told w64 c.score-of2.result c.score-of2.type-inv ∙ c.score-of2.ensures), (value_near _ _ (told w64 c.before.score-of.result c.before.score-of.type-inv ∙ c.before.score-of.ensures) c.before.before.before.before.before.before.before.before.pair-in.ensures.1, value_near _ _ (told w64 c.score-of2.result c.score-of2.type-inv ∙ c.score-of2.ensures) c.before.before.before.before.before.before.before.pair-in2.ensures.1))
+returns-5 c = (pair_good _ c.before.before.before.before.before.before.before.before.before.before.before.before.args.bytes.now c.before.before.before.before.before.before.before.before.before.before.before.before.args.at c.before.before.before.before.before.before.before.before.before.if1.false _ _ c.before.before.before.before.before.before.before.before.pair-in.ensures.0 c.before.before.before.before.before.before.before.pair-in2.ensures.0 (sym c.before.before.before.before.before.before.in-range.ensures ∙ not-false _ c.before.before.before.before.before.if2.false) (sym c.before.before.before.before.in-range2.ensures ∙ not-false _ c.before.before.before.if3.false) c.before.before.if4.false _ _ (told w64 c.before.score-of.result c.before.score-of.type-inv ∙ c.before.score-of.ensures) (told w64 c.score-of2.result c.score-of2.type-inv ∙ c.score-of2.ensures), (value_near _ _ (told w64 c.before.score-of.result c.before.score-of.type-inv ∙ c.before.score-of.ensures) c.before.before.before.before.before.before.before.before.pair-in.ensures.1, value_near _ _ (told w64 c.score-of2.result c.score-of2.type-inv ∙ c.score-of2.ensures) c.before.before.before.before.before.before.before.pair-in2.ensures.1))
 
 pub loose-token-spec : {M : Type 1} → statement M
 loose-token-spec =

@@ -10,8 +10,8 @@ use Rattle.format_translation.specs.Translation.{Translation}
 use Rattle.format_translation.specs.Running.{clauses_of}
 use Rattle.search_sources.specs.Inner.Goals.{Goal, FirstAll}
 use Rattle.search_levels.specs.Inner.Setting.{Truthful, Seeks, SeeksAll}
-use Rattle.search_levels.proofs.Needing.{plain, class-positive, class-whole, seeks_still, name_known, asks-match, name-unmatched, name-seeks, count_inside, count_is, kind-inside, operand-seeks, operand-kind}
-use Rattle.search_first.proofs.Putting.{puts_past, puts_same, token_written, no_levels, one_level, node_put, first_of, unknown_none, go_on, Going, going_start, going_end, going-first, going_next}
+use Rattle.search_levels.proofs.Needing.{plain, class_positive, class_whole, seeks_still, name_known, asks_match, name_unmatched, name_seeks, count_inside, count_is, kind_inside, operand_seeks, operand_kind}
+use Rattle.search_first.proofs.Putting.{puts_past, puts_same, token_written, no_levels, one_level, node_put, first_of, unknown_none, go_on, Going, going_start, going_end, going_first, going_next}
 use borrow.Fn.Kinds.{In}
 use borrow.Fn.PlainCycle.{Measures, is, falls, and}
 use Rattle.search_first.proofs.put.put_first.Reads as put_first
@@ -87,7 +87,7 @@ put-first-index-at-requires : (t : ℕ) → put-first-lts.Need-index-at-requires
 put-first-index-at-requires t c κs = omega (arith, c.before.before.before.before.before.before.before.before.before.requires.1.2.2.kind)
 
 put-first-token-value-requires : (t : ℕ) → put-first-lts.Need-token-value-requires (put-first-calls t) (put-first-at t) put_first.Post
-put-first-token-value-requires t c κs = let q = c.before.before.before.before.before.before.before.before.before.before.before.before.requires.1.2 in (class-positive _ _ _ _ _ _ _ _ _ _ q.0 q.1 q.2 _ c.before.before.index_at.ensures.0 c.before.if2.true, class-whole _ _ _ _ _ _ _ _ _ _ q.0 q.1 q.2 _ c.before.before.index_at.ensures.0 c.before.if2.true)
+put-first-token-value-requires t c κs = let q = c.before.before.before.before.before.before.before.before.before.before.before.before.requires.1.2 in (class_positive _ _ _ _ _ _ _ _ _ _ q.0 q.1 q.2 _ c.before.before.index_at.ensures.0 c.before.if2.true, class_whole _ _ _ _ _ _ _ _ _ _ q.0 q.1 q.2 _ c.before.before.index_at.ensures.0 c.before.if2.true)
 
 put-first-put-value-requires : (t : ℕ) → put-first-lts.Need-put-value-requires (put-first-calls t) (put-first-at t) put_first.Post
 put-first-put-value-requires t c κs = (c.before.before.before.before.before.before.before.before.before.before.before.before.before.requires.1.1, c.token-value.ensures.1)
@@ -129,16 +129,16 @@ put-node-clause-at-requires : (t : ℕ) → put-node-lts.Need-clause-at-requires
 put-node-clause-at-requires t c κs = c.before.production-key.ensures.1
 
 put-node-matches-requires : (t : ℕ) → put-node-lts.Need-matches-requires (put-node-calls t) (put-node-at t) put-node.Post
-put-node-matches-requires t c κs = let q = c.before.before.before.before.before.before.before.before.before.before.before.before.before.requires.1.4 in let n = name_known _ _ _ _ _ _ _ _ _ _ q.0 q.1 q.2 _ c.before.before.before.before.before.before.before.before.before.before.before.before.before.requires.1.1 c.before.before.before.before.before.before.before.before.before.before.before.before.before.requires.1.2 in (q.0, _, _, n.0, q.1, asks-match _ _ _ _ _ _ _ _ _ _ q.0 q.1 q.2 _ c.before.before.before.before.before.before.before.before.before.before.before.before.before.requires.1.1 n.0 n.1 _ _ _ c.before.before.before.index_at.ensures.0 c.before.before.clause-at.ensures.0 c.before.before.before.before.production-key.ensures.0 _ refl)
+put-node-matches-requires t c κs = let q = c.before.before.before.before.before.before.before.before.before.before.before.before.before.requires.1.4 in let n = name_known _ _ _ _ _ _ _ _ _ _ q.0 q.1 q.2 _ c.before.before.before.before.before.before.before.before.before.before.before.before.before.requires.1.1 c.before.before.before.before.before.before.before.before.before.before.before.before.before.requires.1.2 in (q.0, _, _, n.0, q.1, asks_match _ _ _ _ _ _ _ _ _ _ q.0 q.1 q.2 _ c.before.before.before.before.before.before.before.before.before.before.before.before.before.requires.1.1 n.0 n.1 _ _ _ c.before.before.before.index_at.ensures.0 c.before.before.clause-at.ensures.0 c.before.before.before.before.production-key.ensures.0 _ refl)
 
 put-node-returns : (t : ℕ) → put-node-lts.Need-returns (put-node-calls t) (put-node-at t) put-node.Post
-put-node-returns t c = (c.before.before.before.before.before.before.before.before.before.before.before.before.before.before.before.requires.1.3, refl, refl, refl, λ f g h. let n = name_known _ _ _ _ _ _ _ _ _ _ f g h _ c.before.before.before.before.before.before.before.before.before.before.before.before.before.before.before.requires.1.1 c.before.before.before.before.before.before.before.before.before.before.before.before.before.before.before.requires.1.2 in let w = c.before.matches.ensures f _ _ n.0 g (asks-match _ _ _ _ _ _ _ _ _ _ f g h _ c.before.before.before.before.before.before.before.before.before.before.before.before.before.before.before.requires.1.1 n.0 n.1 _ _ _ c.before.before.before.before.before.index_at.ensures.0 c.before.before.before.before.clause-at.ensures.0 c.before.before.before.before.before.before.production-key.ensures.0 _ refl) in (h.truthful, λ s z. absurd (unknown_none _ _ _ _ _ g s (name-unmatched _ _ _ _ _ _ _ _ _ _ f g h _ c.before.before.before.before.before.before.before.before.before.before.before.before.before.before.before.requires.1.1 n.0 n.1 _ _ _ c.before.before.before.before.before.index_at.ensures.0 c.before.before.before.before.clause-at.ensures.0 c.before.before.before.before.before.before.production-key.ensures.0 _ _ w _ (not-true _ c.if1.true)) z)))
+put-node-returns t c = (c.before.before.before.before.before.before.before.before.before.before.before.before.before.before.before.requires.1.3, refl, refl, refl, λ f g h. let n = name_known _ _ _ _ _ _ _ _ _ _ f g h _ c.before.before.before.before.before.before.before.before.before.before.before.before.before.before.before.requires.1.1 c.before.before.before.before.before.before.before.before.before.before.before.before.before.before.before.requires.1.2 in let w = c.before.matches.ensures f _ _ n.0 g (asks_match _ _ _ _ _ _ _ _ _ _ f g h _ c.before.before.before.before.before.before.before.before.before.before.before.before.before.before.before.requires.1.1 n.0 n.1 _ _ _ c.before.before.before.before.before.index_at.ensures.0 c.before.before.before.before.clause-at.ensures.0 c.before.before.before.before.before.before.production-key.ensures.0 _ refl) in (h.truthful, λ s z. absurd (unknown_none _ _ _ _ _ g s (name_unmatched _ _ _ _ _ _ _ _ _ _ f g h _ c.before.before.before.before.before.before.before.before.before.before.before.before.before.before.before.requires.1.1 n.0 n.1 _ _ _ c.before.before.before.before.before.index_at.ensures.0 c.before.before.before.before.clause-at.ensures.0 c.before.before.before.before.before.before.production-key.ensures.0 _ _ w _ (not-true _ c.if1.true)) z)))
 
 put-node-put-operands-requires : (t : ℕ) → put-node-lts.Need-put-operands-requires (put-node-calls t) (put-node-at t) put-node.Post
-put-node-put-operands-requires t c κs = let q = c.before.before.before.before.before.before.before.before.before.before.before.before.before.before.before.before.before.before.before.requires.1.4 in let n = name_known _ _ _ _ _ _ _ _ _ _ q.0 q.1 q.2 _ c.before.before.before.before.before.before.before.before.before.before.before.before.before.before.before.before.before.before.before.requires.1.1 c.before.before.before.before.before.before.before.before.before.before.before.before.before.before.before.before.before.before.before.requires.1.2 in let w = c.before.before.before.before.before.matches.ensures q.0 _ _ n.0 q.1 (asks-match _ _ _ _ _ _ _ _ _ _ q.0 q.1 q.2 _ c.before.before.before.before.before.before.before.before.before.before.before.before.before.before.before.before.before.before.before.requires.1.1 n.0 n.1 _ _ _ c.before.before.before.before.before.before.before.before.before.index_at.ensures.0 c.before.before.before.before.before.before.before.before.clause-at.ensures.0 c.before.before.before.before.before.before.before.before.before.before.production-key.ensures.0 _ refl) in (omega (arith, c.before.before.before.before.before.before.before.before.before.before.before.before.before.before.before.before.before.before.before.requires.0), (c.before.before.before.before.before.before.before.before.before.before.before.before.before.before.before.before.before.before.before.requires.1.0, c.before.before.before.before.before.before.before.before.before.before.before.before.before.before.before.before.before.before.before.requires.1.3, (q.0, n.0, _, name-seeks _ _ _ _ _ _ _ _ _ _ q.0 q.1 q.2 _ c.before.before.before.before.before.before.before.before.before.before.before.before.before.before.before.before.before.before.before.requires.1.1 n.0 n.1 _ _ _ c.before.before.before.before.before.before.before.before.before.index_at.ensures.0 c.before.before.before.before.before.before.before.before.clause-at.ensures.0 c.before.before.before.before.before.before.before.before.before.before.production-key.ensures.0 _ _ w (not-false _ c.before.before.before.before.if1.false))))
+put-node-put-operands-requires t c κs = let q = c.before.before.before.before.before.before.before.before.before.before.before.before.before.before.before.before.before.before.before.requires.1.4 in let n = name_known _ _ _ _ _ _ _ _ _ _ q.0 q.1 q.2 _ c.before.before.before.before.before.before.before.before.before.before.before.before.before.before.before.before.before.before.before.requires.1.1 c.before.before.before.before.before.before.before.before.before.before.before.before.before.before.before.before.before.before.before.requires.1.2 in let w = c.before.before.before.before.before.matches.ensures q.0 _ _ n.0 q.1 (asks_match _ _ _ _ _ _ _ _ _ _ q.0 q.1 q.2 _ c.before.before.before.before.before.before.before.before.before.before.before.before.before.before.before.before.before.before.before.requires.1.1 n.0 n.1 _ _ _ c.before.before.before.before.before.before.before.before.before.index_at.ensures.0 c.before.before.before.before.before.before.before.before.clause-at.ensures.0 c.before.before.before.before.before.before.before.before.before.before.production-key.ensures.0 _ refl) in (omega (arith, c.before.before.before.before.before.before.before.before.before.before.before.before.before.before.before.before.before.before.before.requires.0), (c.before.before.before.before.before.before.before.before.before.before.before.before.before.before.before.before.before.before.before.requires.1.0, c.before.before.before.before.before.before.before.before.before.before.before.before.before.before.before.before.before.before.before.requires.1.3, (q.0, n.0, _, name_seeks _ _ _ _ _ _ _ _ _ _ q.0 q.1 q.2 _ c.before.before.before.before.before.before.before.before.before.before.before.before.before.before.before.before.before.before.before.requires.1.1 n.0 n.1 _ _ _ c.before.before.before.before.before.before.before.before.before.index_at.ensures.0 c.before.before.before.before.before.before.before.before.clause-at.ensures.0 c.before.before.before.before.before.before.before.before.before.before.production-key.ensures.0 _ _ w (not-false _ c.before.before.before.before.if1.false))))
 
 put-node-returns-2 : (t : ℕ) → put-node-lts.Need-returns-2 (put-node-calls t) (put-node-at t) put-node.Post
-put-node-returns-2 t c = (c.before.before.before.before.before.before.put-operands.ensures.0, c.before.before.before.before.before.before.put-operands.ensures.1, c.before.before.before.before.before.before.put-operands.ensures.2, c.before.before.before.before.before.before.put-operands.ensures.3, λ f g h. let n = name_known _ _ _ _ _ _ _ _ _ _ f g h _ c.before.before.before.before.before.before.before.before.before.before.before.before.before.before.before.before.before.before.before.before.before.before.before.before.before.before.requires.1.1 c.before.before.before.before.before.before.before.before.before.before.before.before.before.before.before.before.before.before.before.before.before.before.before.before.before.before.requires.1.2 in let w = c.before.before.before.before.before.before.before.before.before.before.before.before.matches.ensures f _ _ n.0 g (asks-match _ _ _ _ _ _ _ _ _ _ f g h _ c.before.before.before.before.before.before.before.before.before.before.before.before.before.before.before.before.before.before.before.before.before.before.before.before.before.before.requires.1.1 n.0 n.1 _ _ _ c.before.before.before.before.before.before.before.before.before.before.before.before.before.before.before.before.index_at.ensures.0 c.before.before.before.before.before.before.before.before.before.before.before.before.before.before.before.clause-at.ensures.0 c.before.before.before.before.before.before.before.before.before.before.before.before.before.before.before.before.before.production-key.ensures.0 _ refl) in let e = not-false _ c.before.before.before.before.before.before.before.before.before.before.before.if1.false in let r = c.before.before.before.before.before.before.put-operands.ensures.4 f n.0 _ (name-seeks _ _ _ _ _ _ _ _ _ _ f g h _ c.before.before.before.before.before.before.before.before.before.before.before.before.before.before.before.before.before.before.before.before.before.before.before.before.before.before.requires.1.1 n.0 n.1 _ _ _ c.before.before.before.before.before.before.before.before.before.before.before.before.before.before.before.before.index_at.ensures.0 c.before.before.before.before.before.before.before.before.before.before.before.before.before.before.before.clause-at.ensures.0 c.before.before.before.before.before.before.before.before.before.before.before.before.before.before.before.before.before.production-key.ensures.0 _ _ w e) in (r.0, λ s z. r.1 s (go_on _ _ _ _ n.0 g (w.holds e).0 _ s n.1 (w.holds e).2 z)))
+put-node-returns-2 t c = (c.before.before.before.before.before.before.put-operands.ensures.0, c.before.before.before.before.before.before.put-operands.ensures.1, c.before.before.before.before.before.before.put-operands.ensures.2, c.before.before.before.before.before.before.put-operands.ensures.3, λ f g h. let n = name_known _ _ _ _ _ _ _ _ _ _ f g h _ c.before.before.before.before.before.before.before.before.before.before.before.before.before.before.before.before.before.before.before.before.before.before.before.before.before.before.requires.1.1 c.before.before.before.before.before.before.before.before.before.before.before.before.before.before.before.before.before.before.before.before.before.before.before.before.before.before.requires.1.2 in let w = c.before.before.before.before.before.before.before.before.before.before.before.before.matches.ensures f _ _ n.0 g (asks_match _ _ _ _ _ _ _ _ _ _ f g h _ c.before.before.before.before.before.before.before.before.before.before.before.before.before.before.before.before.before.before.before.before.before.before.before.before.before.before.requires.1.1 n.0 n.1 _ _ _ c.before.before.before.before.before.before.before.before.before.before.before.before.before.before.before.before.index_at.ensures.0 c.before.before.before.before.before.before.before.before.before.before.before.before.before.before.before.clause-at.ensures.0 c.before.before.before.before.before.before.before.before.before.before.before.before.before.before.before.before.before.production-key.ensures.0 _ refl) in let e = not-false _ c.before.before.before.before.before.before.before.before.before.before.before.if1.false in let r = c.before.before.before.before.before.before.put-operands.ensures.4 f n.0 _ (name_seeks _ _ _ _ _ _ _ _ _ _ f g h _ c.before.before.before.before.before.before.before.before.before.before.before.before.before.before.before.before.before.before.before.before.before.before.before.before.before.before.requires.1.1 n.0 n.1 _ _ _ c.before.before.before.before.before.before.before.before.before.before.before.before.before.before.before.before.index_at.ensures.0 c.before.before.before.before.before.before.before.before.before.before.before.before.before.before.before.clause-at.ensures.0 c.before.before.before.before.before.before.before.before.before.before.before.before.before.before.before.before.before.production-key.ensures.0 _ _ w e) in (r.0, λ s z. r.1 s (go_on _ _ _ _ n.0 g (w.holds e).0 _ s n.1 (w.holds e).2 z)))
 
 abbrev put-operands-Inv-loop : put-operands-lts.invariant-loop
 put-operands-Inv-loop table source target places kinds tree memory₀ free₀ place bound output₀ levels limit count j₀ pos₀ memory free output j pos = (j ≤ count) × (count ≤ 8) × (pos ≤ limit) × (length memory ≡ length memory₀) × (length free ≡ length free₀) × (length output ≡ length output₀) × ((f : Translation) (ks : List ℕ) (b : ℕ → Goal) → SeeksAll table source target places kinds tree memory₀ free₀ bound place f ks b → (count ≡ length ks) × Truthful f tree memory free × ((s : Codes) → FirstAll f.source (clauses_of f) levels ks b s → Going f.source (clauses_of f) levels ks b j limit s output₀ output pos₀ pos))
@@ -165,7 +165,7 @@ put-operands-add-source-at-2 : (t : ℕ) → put-operands-lts.Need-overflow-add-
 put-operands-add-source-at-2 t c = let q = c.before.before.before.before.before.before.before.before.before.before.before.before.requires.1.2 in let x = count_inside _ _ _ _ _ _ _ _ _ _ q.0 q.1 q.2 q.3 in omega (arith, c.first-operand.ensures, c.before.before.loop.invariant.0, c.before.before.loop.invariant.1)
 
 put-operands-source-at-requires-2 : (t : ℕ) → put-operands-lts.Need-source-at-requires-2 (put-operands-calls t) (put-operands-at t) put-operands.Post put-operands-Inv-loop put-operands-μ-loop
-put-operands-source-at-requires-2 t c κs = let q = c.before.before.before.before.before.before.before.before.before.before.before.before.requires.1.2 in let w = c.before.before.loop.invariant.6 q.0 q.1 q.2 q.3 in let y = c.before.loop-test.true in kind-inside _ _ _ _ _ _ _ _ _ _ q.0 q.1 q.2 q.3 _ (omega (arith, w.0, y)) c.first-operand.ensures
+put-operands-source-at-requires-2 t c κs = let q = c.before.before.before.before.before.before.before.before.before.before.before.before.requires.1.2 in let w = c.before.before.loop.invariant.6 q.0 q.1 q.2 q.3 in let y = c.before.loop-test.true in kind_inside _ _ _ _ _ _ _ _ _ _ q.0 q.1 q.2 q.3 _ (omega (arith, w.0, y)) c.first-operand.ensures
 
 put-operands-mul-at : (t : ℕ) → put-operands-lts.Need-overflow-mul-at (put-operands-calls t) (put-operands-at t) put-operands.Post put-operands-Inv-loop put-operands-μ-loop
 put-operands-mul-at t c = omega (arith, c.before.before.before.loop.invariant.1, c.before.before.loop-test.true)
@@ -174,7 +174,7 @@ put-operands-element-copy-out-at : (t : ℕ) → put-operands-lts.Need-element-c
 put-operands-element-copy-out-at t c = omega (arith, c.before.before.before.loop.invariant.1, c.before.before.loop-test.true)
 
 put-operands-put-first-requires : (t : ℕ) → put-operands-lts.Need-put-first-requires (put-operands-calls t) (put-operands-at t) put-operands.Post put-operands-Inv-loop put-operands-μ-loop
-put-operands-put-first-requires t c κs = let q = c.before.before.before.before.before.before.before.before.before.before.before.before.before.before.before.before.before.requires.1.2 in let w = c.before.before.before.before.before.before.before.loop.invariant.6 q.0 q.1 q.2 q.3 in let y = c.before.before.before.before.before.before.loop-test.true in (omega (arith, c.before.before.before.before.before.before.before.before.before.before.before.before.before.before.before.before.before.requires.0), (c.before.before.before.before.before.before.before.before.before.before.before.before.before.before.before.before.before.requires.1.0, c.before.before.before.before.before.before.before.loop.invariant.2, (q.0, _, operand-seeks _ _ _ _ _ _ _ _ _ _ q.0 q.1 q.2 q.3 _ (omega (arith, w.0, y)) _ _ w.1 c.before.before.before.before.before.first-operand.ensures c.before.before.before.before.source-at2.ensures.0)))
+put-operands-put-first-requires t c κs = let q = c.before.before.before.before.before.before.before.before.before.before.before.before.before.before.before.before.before.requires.1.2 in let w = c.before.before.before.before.before.before.before.loop.invariant.6 q.0 q.1 q.2 q.3 in let y = c.before.before.before.before.before.before.loop-test.true in (omega (arith, c.before.before.before.before.before.before.before.before.before.before.before.before.before.before.before.before.before.requires.0), (c.before.before.before.before.before.before.before.before.before.before.before.before.before.before.before.before.before.requires.1.0, c.before.before.before.before.before.before.before.loop.invariant.2, (q.0, _, operand_seeks _ _ _ _ _ _ _ _ _ _ q.0 q.1 q.2 q.3 _ (omega (arith, w.0, y)) _ _ w.1 c.before.before.before.before.before.first-operand.ensures c.before.before.before.before.source-at2.ensures.0)))
 
 put-operands-add-j : (t : ℕ) → put-operands-lts.Need-overflow-add-j (put-operands-calls t) (put-operands-at t) put-operands.Post put-operands-Inv-loop put-operands-μ-loop
 put-operands-add-j t c = omega (arith, c.before.before.before.before.before.before.before.before.before.before.before.before.before.before.loop.invariant.1, c.before.before.before.before.before.before.before.before.before.before.before.before.before.loop-test.true)
@@ -183,7 +183,7 @@ put-operands-loop-less : (t : ℕ) → put-operands-lts.Need-loop-smaller (put-o
 put-operands-loop-less t c = omega (arith, c.before.before.before.before.before.before.before.before.before.before.before.before.before.loop-test.true)
 
 put-operands-loop-again : (t : ℕ) → put-operands-lts.Need-loop-preserved (put-operands-calls t) (put-operands-at t) put-operands.Post put-operands-Inv-loop put-operands-μ-loop
-put-operands-loop-again t c = (omega (arith, c.before.before.before.before.before.before.before.before.before.before.before.before.before.loop-test.true), c.before.before.before.before.before.before.before.before.before.before.before.before.before.before.loop.invariant.1, c.before.before.before.before.before.before.put_first.ensures.0, c.before.before.before.before.before.before.put_first.ensures.1 ∙ c.before.before.before.before.before.before.before.before.before.before.before.before.before.before.loop.invariant.3, c.before.before.before.before.before.before.put_first.ensures.2 ∙ c.before.before.before.before.before.before.before.before.before.before.before.before.before.before.loop.invariant.4, c.before.before.before.before.before.before.put_first.ensures.3 ∙ c.before.before.before.before.before.before.before.before.before.before.before.before.before.before.loop.invariant.5, λ f ks b h. let w = c.before.before.before.before.before.before.before.before.before.before.before.before.before.before.loop.invariant.6 f ks b h in let y = c.before.before.before.before.before.before.before.before.before.before.before.before.before.loop-test.true in let r = c.before.before.before.before.before.before.put_first.ensures.4 f _ (operand-seeks _ _ _ _ _ _ _ _ _ _ f ks b h _ (omega (arith, w.0, y)) _ _ w.1 c.before.before.before.before.before.before.before.before.before.before.before.before.first-operand.ensures c.before.before.before.before.before.before.before.before.before.before.before.source-at2.ensures.0) in (w.0, r.0, λ s z. let v = w.2 s z in going_next _ _ _ ks b _ s _ _ c.before.before.before.before.before.before.before.before.before.before.before.before.before.before.before.before.before.before.before.before.before.before.before.before.requires.1.1 _ _ _ v (omega (arith, w.0, y)) _ _ (r.1 _ (going-first _ _ _ ks b _ s _ _ c.before.before.before.before.before.before.before.before.before.before.before.before.before.before.before.before.before.before.before.before.before.before.before.before.requires.1.1 _ _ _ v (omega (arith, w.0, y)) (operand-kind _ _ _ _ _ _ _ _ _ _ f ks b h _ (omega (arith, w.0, y)) c.before.before.before.before.before.before.before.before.before.before.before.before.first-operand.ensures c.before.before.before.before.before.before.before.before.before.before.before.source-at2.ensures.0)))))
+put-operands-loop-again t c = (omega (arith, c.before.before.before.before.before.before.before.before.before.before.before.before.before.loop-test.true), c.before.before.before.before.before.before.before.before.before.before.before.before.before.before.loop.invariant.1, c.before.before.before.before.before.before.put_first.ensures.0, c.before.before.before.before.before.before.put_first.ensures.1 ∙ c.before.before.before.before.before.before.before.before.before.before.before.before.before.before.loop.invariant.3, c.before.before.before.before.before.before.put_first.ensures.2 ∙ c.before.before.before.before.before.before.before.before.before.before.before.before.before.before.loop.invariant.4, c.before.before.before.before.before.before.put_first.ensures.3 ∙ c.before.before.before.before.before.before.before.before.before.before.before.before.before.before.loop.invariant.5, λ f ks b h. let w = c.before.before.before.before.before.before.before.before.before.before.before.before.before.before.loop.invariant.6 f ks b h in let y = c.before.before.before.before.before.before.before.before.before.before.before.before.before.loop-test.true in let r = c.before.before.before.before.before.before.put_first.ensures.4 f _ (operand_seeks _ _ _ _ _ _ _ _ _ _ f ks b h _ (omega (arith, w.0, y)) _ _ w.1 c.before.before.before.before.before.before.before.before.before.before.before.before.first-operand.ensures c.before.before.before.before.before.before.before.before.before.before.before.source-at2.ensures.0) in (w.0, r.0, λ s z. let v = w.2 s z in going_next _ _ _ ks b _ s _ _ c.before.before.before.before.before.before.before.before.before.before.before.before.before.before.before.before.before.before.before.before.before.before.before.before.requires.1.1 _ _ _ v (omega (arith, w.0, y)) _ _ (r.1 _ (going_first _ _ _ ks b _ s _ _ c.before.before.before.before.before.before.before.before.before.before.before.before.before.before.before.before.before.before.before.before.before.before.before.before.requires.1.1 _ _ _ v (omega (arith, w.0, y)) (operand_kind _ _ _ _ _ _ _ _ _ _ f ks b h _ (omega (arith, w.0, y)) c.before.before.before.before.before.before.before.before.before.before.before.before.first-operand.ensures c.before.before.before.before.before.before.before.before.before.before.before.source-at2.ensures.0)))))
 
 put-operands-returns : (t : ℕ) → put-operands-lts.Need-returns (put-operands-calls t) (put-operands-at t) put-operands.Post put-operands-Inv-loop put-operands-μ-loop
 put-operands-returns t c = (c.before.loop.invariant.2, c.before.loop.invariant.3, c.before.loop.invariant.4, c.before.loop.invariant.5, λ f ks b h. let w = c.before.loop.invariant.6 f ks b h in (w.1, λ s z. going_end _ _ _ ks b _ s _ _ c.before.before.before.before.before.before.before.before.before.before.before.requires.1.1 _ _ _ (w.2 s z) (omega (arith, w.0, c.loop-test.false))))

@@ -6,8 +6,8 @@ use native.Mathlib.Omega.{arith}
 use Rattle.format_translation.specs.Translation.{Translation}
 use Rattle.search_sources.specs.Inner.Goals.{Goal}
 use Rattle.search_levels.specs.Inner.Clauses.{MatchAsks}
-use Rattle.search_levels.proofs.Alone.{clause_starts, clause_inside, number-inside, alone-matches}
-use Rattle.search_levels.proofs.Whole.{Going, the_clause, match_free, match-start, going-inside, match-step, match-stops, match-next, match-done, step_width}
+use Rattle.search_levels.proofs.Alone.{clause_starts, clause_inside, number_inside, alone_matches}
+use Rattle.search_levels.proofs.Whole.{Going, the_clause, match_free, match_start, going_inside, match_step, match_stops, match_next, match_done, step_width}
 use Rattle.search_levels.proofs.clause.matches.Statement.{statement}
 use Rattle.search_levels.proofs.clause.matches.Tie as tie
 use Rattle.search_levels.proofs.clause.matches.Reads as reads
@@ -39,16 +39,16 @@ body-at-requires-2 : tie.Need-body-at-requires-2 invariant-loop decreases-loop
 body-at-requires-2 c κs = let q = c.before.before.before.before.before.before.before.before.requires in clause_inside _ _ _ _ _ _ _ _ _ _ q.0 q.1 q.2 q.3 q.4 q.5 c.before.before.if1.false (sym c.before.body_at.ensures.0 ∙ c.if2.true)
 
 sub-bound : tie.Need-overflow-sub-bound invariant-loop decreases-loop
-sub-bound c = let q = c.before.before.before.before.before.before.before.before.before.requires in (number-inside _ _ _ _ _ _ _ _ _ _ q.0 q.1 q.2 q.3 q.4 q.5 c.before.before.before.if1.false (sym c.before.before.body_at.ensures.0 ∙ c.before.if2.true) _ c.body-at2.ensures.0).0
+sub-bound c = let q = c.before.before.before.before.before.before.before.before.before.requires in (number_inside _ _ _ _ _ _ _ _ _ _ q.0 q.1 q.2 q.3 q.4 q.5 c.before.before.before.if1.false (sym c.before.before.body_at.ensures.0 ∙ c.before.if2.true) _ c.body-at2.ensures.0).0
 
 mul-bound : tie.Need-overflow-mul-bound invariant-loop decreases-loop
-mul-bound c = let q = c.before.before.before.before.before.before.before.before.before.requires in let z = (number-inside _ _ _ _ _ _ _ _ _ _ q.0 q.1 q.2 q.3 q.4 q.5 c.before.before.before.if1.false (sym c.before.before.body_at.ensures.0 ∙ c.before.if2.true) _ c.body-at2.ensures.0).1 in omega arith
+mul-bound c = let q = c.before.before.before.before.before.before.before.before.before.requires in let z = (number_inside _ _ _ _ _ _ _ _ _ _ q.0 q.1 q.2 q.3 q.4 q.5 c.before.before.before.if1.false (sym c.before.before.body_at.ensures.0 ∙ c.before.if2.true) _ c.body-at2.ensures.0).1 in omega arith
 
 element-write-bound : tie.Need-element-write-bound invariant-loop decreases-loop
-element-write-bound c = let q = c.before.before.before.before.before.before.before.before.before.requires in let z = (number-inside _ _ _ _ _ _ _ _ _ _ q.0 q.1 q.2 q.3 q.4 q.5 c.before.before.before.if1.false (sym c.before.before.body_at.ensures.0 ∙ c.before.if2.true) _ c.body-at2.ensures.0).1 in omega arith
+element-write-bound c = let q = c.before.before.before.before.before.before.before.before.before.requires in let z = (number_inside _ _ _ _ _ _ _ _ _ _ q.0 q.1 q.2 q.3 q.4 q.5 c.before.before.before.if1.false (sym c.before.before.body_at.ensures.0 ∙ c.before.if2.true) _ c.body-at2.ensures.0).1 in omega arith
 
 returns-2 : tie.Need-returns-2 invariant-loop decreases-loop
-returns-2 c = λ f k p ks g h. alone-matches _ _ _ _ _ _ _ _ _ _ f k p ks g h c.before.before.before.if1.false (sym c.before.before.body_at.ensures.0 ∙ c.before.if2.true) _ c.body-at2.ensures.0
+returns-2 c = λ f k p ks g h. alone_matches _ _ _ _ _ _ _ _ _ _ f k p ks g h c.before.before.before.if1.false (sym c.before.before.body_at.ensures.0 ∙ c.before.if2.true) _ c.body-at2.ensures.0
 
 add-clause-end : tie.Need-overflow-add-clause-end invariant-loop decreases-loop
 add-clause-end c = let q = c.before.before.before.before.before.before.before.before.requires in let z = clause_starts _ _ _ _ _ _ _ _ _ _ q.0 q.1 q.2 q.3 q.4 q.5 in omega arith
@@ -60,13 +60,13 @@ add-c : tie.Need-overflow-add-c invariant-loop decreases-loop
 add-c c = let q = c.before.before.before.before.before.before.before.before.before.requires in let z = (the_clause _ _ _ _ _ _ _ _ _ _ q.0 q.1 q.2 q.3 q.4 q.5).inside in omega arith
 
 loop-holds : tie.Need-loop-init invariant-loop decreases-loop
-loop-holds c = let q = c.before.before.before.before.before.before.before.before.before.requires in (going-inside _ _ _ _ _ _ _ _ _ _ q.0 q.1 q.2 q.3 q.4 q.5 _ _ _ _ (match-start _ _ _ _ _ _ _ _ _ _ q.0 q.1 q.2 q.3 q.4 q.5 c.before.before.before.if1.false _ (c.clause-end.ensures _ (the_clause _ _ _ _ _ _ _ _ _ _ q.0 q.1 q.2 q.3 q.4 q.5))), λ f k p ks g h. match-start _ _ _ _ _ _ _ _ _ _ f k p ks g h c.before.before.before.if1.false _ (c.clause-end.ensures _ (the_clause _ _ _ _ _ _ _ _ _ _ f k p ks g h)))
+loop-holds c = let q = c.before.before.before.before.before.before.before.before.before.requires in (going_inside _ _ _ _ _ _ _ _ _ _ q.0 q.1 q.2 q.3 q.4 q.5 _ _ _ _ (match_start _ _ _ _ _ _ _ _ _ _ q.0 q.1 q.2 q.3 q.4 q.5 c.before.before.before.if1.false _ (c.clause-end.ensures _ (the_clause _ _ _ _ _ _ _ _ _ _ q.0 q.1 q.2 q.3 q.4 q.5))), λ f k p ks g h. match_start _ _ _ _ _ _ _ _ _ _ f k p ks g h c.before.before.before.if1.false _ (c.clause-end.ensures _ (the_clause _ _ _ _ _ _ _ _ _ _ f k p ks g h)))
 
 step-requires : tie.Need-step-requires invariant-loop decreases-loop
-step-requires c κs = let q = c.before.before.before.before.before.before.before.before.before.before.before.before.requires in (_, q.0, q.3, _, _, _, _, match-step _ _ _ _ _ _ _ _ _ _ q.0 q.1 q.2 q.3 q.4 q.5 _ _ _ _ (c.before.before.loop.invariant.1 q.0 q.1 q.2 q.3 q.4 q.5) c.before.loop-test.true)
+step-requires c κs = let q = c.before.before.before.before.before.before.before.before.before.before.before.before.requires in (_, q.0, q.3, _, _, _, _, match_step _ _ _ _ _ _ _ _ _ _ q.0 q.1 q.2 q.3 q.4 q.5 _ _ _ _ (c.before.before.loop.invariant.1 q.0 q.1 q.2 q.3 q.4 q.5) c.before.loop-test.true)
 
 returns-3 : tie.Need-returns-3 invariant-loop decreases-loop
-returns-3 c = λ f k p ks g h. let w = c.before.before.before.before.loop.invariant.1 f k p ks g h in match-stops _ _ _ _ _ _ _ _ _ _ f k p ks g h _ _ _ _ w _ _ (c.before.step.ensures _ f ks _ _ _ _ (match-step _ _ _ _ _ _ _ _ _ _ f k p ks g h _ _ _ _ w c.before.before.before.loop-test.true)) c.if3.true
+returns-3 c = λ f k p ks g h. let w = c.before.before.before.before.loop.invariant.1 f k p ks g h in match_stops _ _ _ _ _ _ _ _ _ _ f k p ks g h _ _ _ _ w _ _ (c.before.step.ensures _ f ks _ _ _ _ (match_step _ _ _ _ _ _ _ _ _ _ f k p ks g h _ _ _ _ w c.before.before.before.loop-test.true)) c.if3.true
 
 body-at-requires-3 : tie.Need-body-at-requires-3 invariant-loop decreases-loop
 body-at-requires-3 c κs = let z = c.before.before.before.before.loop.invariant.0 in let y = c.before.before.before.loop-test.true in omega arith
@@ -78,10 +78,10 @@ loop-less : tie.Need-loop-smaller invariant-loop decreases-loop
 loop-less c = let y = c.before.before.before.before.before.loop-test.true in let x = c.width_of_lem.ensures.1 in omega arith
 
 loop-again : tie.Need-loop-preserved invariant-loop decreases-loop
-loop-again c = (c.before.before.before.before.before.before.loop.invariant.0, λ f k p ks g h. let w = c.before.before.before.before.before.before.loop.invariant.1 f k p ks g h in match-next _ _ _ _ _ _ _ _ _ _ f k p ks g h _ _ _ _ w _ _ (c.before.before.before.step.ensures _ f ks _ _ _ _ (match-step _ _ _ _ _ _ _ _ _ _ f k p ks g h _ _ _ _ w c.before.before.before.before.before.loop-test.true)) c.before.before.if3.false (step_width c.before.body-at3.ensures.0 c.width_of_lem.ensures.0))
+loop-again c = (c.before.before.before.before.before.before.loop.invariant.0, λ f k p ks g h. let w = c.before.before.before.before.before.before.loop.invariant.1 f k p ks g h in match_next _ _ _ _ _ _ _ _ _ _ f k p ks g h _ _ _ _ w _ _ (c.before.before.before.step.ensures _ f ks _ _ _ _ (match_step _ _ _ _ _ _ _ _ _ _ f k p ks g h _ _ _ _ w c.before.before.before.before.before.loop-test.true)) c.before.before.if3.false (step_width c.before.body-at3.ensures.0 c.width_of_lem.ensures.0))
 
 returns-4 : tie.Need-returns-4 invariant-loop decreases-loop
-returns-4 c = λ f k p ks g h. match-done _ _ _ _ _ _ _ _ _ _ f k p ks g h _ _ _ _ (c.before.loop.invariant.1 f k p ks g h) c.loop-test.false
+returns-4 c = λ f k p ks g h. match_done _ _ _ _ _ _ _ _ _ _ f k p ks g h _ _ _ _ (c.before.loop.invariant.1 f k p ks g h) c.loop-test.false
 
 pub matches-spec : {M : Type 1} → statement M
 matches-spec =

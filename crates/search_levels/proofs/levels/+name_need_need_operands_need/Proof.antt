@@ -11,7 +11,7 @@ use Rattle.search_sources.specs.Inner.Goals.{Goal}
 use Rattle.search_sources.specs.Inner.Levels.{NeedsAll, NeedsNamed}
 use Rattle.search_levels.specs.Inner.Setting.{Truthful, Named, Seeks, SeeksAll}
 use Rattle.search_levels.proofs.Truths.{kept_long, ap_long, same_truth}
-use Rattle.search_levels.proofs.Needing.{recall_true, plain, class-positive, class-whole, class-needs, zero-levels, all-names, seeks_still, keeps_true, names_start, names_next, name_known, asks-match, name-unmatched, name-seeks, name-needs, count_inside, count_is, kind-inside, operand-seeks, operand-kind, operands_start, operands_next, operands_stop, operands_end}
+use Rattle.search_levels.proofs.Needing.{recall_true, plain, class_positive, class_whole, class_needs, zero_levels, all_names, seeks_still, keeps_true, names_start, names_next, name_known, asks_match, name_unmatched, name_seeks, name_needs, count_inside, count_is, kind_inside, operand_seeks, operand_kind, operands_start, operands_next, operands_stop, operands_end}
 use borrow.Fn.Kinds.{In}
 use borrow.Fn.PlainCycle.{Measures, is, falls, and}
 use Rattle.search_levels.proofs.levels.name_need.Reads as name-need
@@ -91,7 +91,7 @@ name-need-clause-at-requires : (t : ℕ) → name-need-lts.Need-clause-at-requir
 name-need-clause-at-requires t c κs = c.before.before.production-key.ensures.1
 
 name-need-matches-requires : (t : ℕ) → name-need-lts.Need-matches-requires (name-need-calls t) (name-need-at t) name-need.Post
-name-need-matches-requires t c κs = let q = c.before.before.before.before.before.before.before.before.before.before.before.before.requires.1 in let n = name_known _ _ _ _ _ _ _ _ _ _ q.3.0 q.3.1 q.3.2 _ q.1 q.2 in (q.3.0, _, _, n.0, q.3.1, asks-match _ _ _ _ _ _ _ _ _ _ q.3.0 q.3.1 q.3.2 _ q.1 n.0 n.1 _ _ _ c.before.before.before.index_at.ensures.0 c.before.clause-at.ensures.0 c.before.before.before.before.production-key.ensures.0 _ refl)
+name-need-matches-requires t c κs = let q = c.before.before.before.before.before.before.before.before.before.before.before.before.requires.1 in let n = name_known _ _ _ _ _ _ _ _ _ _ q.3.0 q.3.1 q.3.2 _ q.1 q.2 in (q.3.0, _, _, n.0, q.3.1, asks_match _ _ _ _ _ _ _ _ _ _ q.3.0 q.3.1 q.3.2 _ q.1 n.0 n.1 _ _ _ c.before.before.before.index_at.ensures.0 c.before.clause-at.ensures.0 c.before.before.before.before.production-key.ensures.0 _ refl)
 
 name-need-add-result : (t : ℕ) → name-need-lts.Need-overflow-add-result (name-need-calls t) (name-need-at t) name-need.Post
 name-need-add-result t c = omega (arith, c.before.before.before.before.before.before.before.before.before.before.before.before.before.before.before.requires.1.0)
@@ -100,13 +100,13 @@ name-need-same-length : (t : ℕ) → name-need-lts.Need-same-length (name-need-
 name-need-same-length t c = refl
 
 name-need-returns : (t : ℕ) → name-need-lts.Need-returns (name-need-calls t) (name-need-at t) name-need.Post
-name-need-returns t c = (omega arith, refl, refl, λ f g h. let n = name_known _ _ _ _ _ _ _ _ _ _ f g h _ c.before.before.before.before.before.before.before.before.before.before.before.before.before.before.before.requires.1.1 c.before.before.before.before.before.before.before.before.before.before.before.before.before.before.before.requires.1.2 in let w = c.before.before.matches.ensures f _ _ n.0 g (asks-match _ _ _ _ _ _ _ _ _ _ f g h _ c.before.before.before.before.before.before.before.before.before.before.before.before.before.before.before.requires.1.1 n.0 n.1 _ _ _ c.before.before.before.before.before.before.index_at.ensures.0 c.before.before.before.before.clause-at.ensures.0 c.before.before.before.before.before.before.before.production-key.ensures.0 _ refl) in (name-unmatched _ _ _ _ _ _ _ _ _ _ f g h _ c.before.before.before.before.before.before.before.before.before.before.before.before.before.before.before.requires.1.1 n.0 n.1 _ _ _ c.before.before.before.before.before.before.index_at.ensures.0 c.before.before.before.before.clause-at.ensures.0 c.before.before.before.before.before.before.before.production-key.ensures.0 _ _ w _ (not-true _ c.before.if1.true), h.truthful))
+name-need-returns t c = (omega arith, refl, refl, λ f g h. let n = name_known _ _ _ _ _ _ _ _ _ _ f g h _ c.before.before.before.before.before.before.before.before.before.before.before.before.before.before.before.requires.1.1 c.before.before.before.before.before.before.before.before.before.before.before.before.before.before.before.requires.1.2 in let w = c.before.before.matches.ensures f _ _ n.0 g (asks_match _ _ _ _ _ _ _ _ _ _ f g h _ c.before.before.before.before.before.before.before.before.before.before.before.before.before.before.before.requires.1.1 n.0 n.1 _ _ _ c.before.before.before.before.before.before.index_at.ensures.0 c.before.before.before.before.clause-at.ensures.0 c.before.before.before.before.before.before.before.production-key.ensures.0 _ refl) in (name_unmatched _ _ _ _ _ _ _ _ _ _ f g h _ c.before.before.before.before.before.before.before.before.before.before.before.before.before.before.before.requires.1.1 n.0 n.1 _ _ _ c.before.before.before.before.before.before.index_at.ensures.0 c.before.before.before.before.clause-at.ensures.0 c.before.before.before.before.before.before.before.production-key.ensures.0 _ _ w _ (not-true _ c.before.if1.true), h.truthful))
 
 name-need-operands-need-requires : (t : ℕ) → name-need-lts.Need-operands-need-requires (name-need-calls t) (name-need-at t) name-need.Post
-name-need-operands-need-requires t c κs = let q = c.before.before.before.before.before.before.before.before.before.before.before.before.before.before.before.before.before.requires.1 in let n = name_known _ _ _ _ _ _ _ _ _ _ q.3.0 q.3.1 q.3.2 _ q.1 q.2 in let w = c.before.before.before.before.matches.ensures q.3.0 _ _ n.0 q.3.1 (asks-match _ _ _ _ _ _ _ _ _ _ q.3.0 q.3.1 q.3.2 _ q.1 n.0 n.1 _ _ _ c.before.before.before.before.before.before.before.before.index_at.ensures.0 c.before.before.before.before.before.before.clause-at.ensures.0 c.before.before.before.before.before.before.before.before.before.production-key.ensures.0 _ refl) in (omega (arith, c.before.before.before.before.before.before.before.before.before.before.before.before.before.before.before.before.before.requires.0), (q.0, (q.3.0, n.0, _, name-seeks _ _ _ _ _ _ _ _ _ _ q.3.0 q.3.1 q.3.2 _ q.1 n.0 n.1 _ _ _ c.before.before.before.before.before.before.before.before.index_at.ensures.0 c.before.before.before.before.before.before.clause-at.ensures.0 c.before.before.before.before.before.before.before.before.before.production-key.ensures.0 _ _ w (not-false _ c.before.before.before.if1.false))))
+name-need-operands-need-requires t c κs = let q = c.before.before.before.before.before.before.before.before.before.before.before.before.before.before.before.before.before.requires.1 in let n = name_known _ _ _ _ _ _ _ _ _ _ q.3.0 q.3.1 q.3.2 _ q.1 q.2 in let w = c.before.before.before.before.matches.ensures q.3.0 _ _ n.0 q.3.1 (asks_match _ _ _ _ _ _ _ _ _ _ q.3.0 q.3.1 q.3.2 _ q.1 n.0 n.1 _ _ _ c.before.before.before.before.before.before.before.before.index_at.ensures.0 c.before.before.before.before.before.before.clause-at.ensures.0 c.before.before.before.before.before.before.before.before.before.production-key.ensures.0 _ refl) in (omega (arith, c.before.before.before.before.before.before.before.before.before.before.before.before.before.before.before.before.before.requires.0), (q.0, (q.3.0, n.0, _, name_seeks _ _ _ _ _ _ _ _ _ _ q.3.0 q.3.1 q.3.2 _ q.1 n.0 n.1 _ _ _ c.before.before.before.before.before.before.before.before.index_at.ensures.0 c.before.before.before.before.before.before.clause-at.ensures.0 c.before.before.before.before.before.before.before.before.before.production-key.ensures.0 _ _ w (not-false _ c.before.before.before.if1.false))))
 
 name-need-returns-2 : (t : ℕ) → name-need-lts.Need-returns-2 (name-need-calls t) (name-need-at t) name-need.Post
-name-need-returns-2 t c = (c.before.before.before.before.operands-need.ensures.0, c.before.before.before.before.operands-need.ensures.1, c.before.before.before.before.operands-need.ensures.2, λ f g h. let n = name_known _ _ _ _ _ _ _ _ _ _ f g h _ c.before.before.before.before.before.before.before.before.before.before.before.before.before.before.before.before.before.before.before.before.before.before.requires.1.1 c.before.before.before.before.before.before.before.before.before.before.before.before.before.before.before.before.before.before.before.before.before.before.requires.1.2 in let w = c.before.before.before.before.before.before.before.before.before.matches.ensures f _ _ n.0 g (asks-match _ _ _ _ _ _ _ _ _ _ f g h _ c.before.before.before.before.before.before.before.before.before.before.before.before.before.before.before.before.before.before.before.before.before.before.requires.1.1 n.0 n.1 _ _ _ c.before.before.before.before.before.before.before.before.before.before.before.before.before.index_at.ensures.0 c.before.before.before.before.before.before.before.before.before.before.before.clause-at.ensures.0 c.before.before.before.before.before.before.before.before.before.before.before.before.before.before.production-key.ensures.0 _ refl) in let r = c.before.before.before.before.operands-need.ensures.3 f n.0 _ (name-seeks _ _ _ _ _ _ _ _ _ _ f g h _ c.before.before.before.before.before.before.before.before.before.before.before.before.before.before.before.before.before.before.before.before.before.before.requires.1.1 n.0 n.1 _ _ _ c.before.before.before.before.before.before.before.before.before.before.before.before.before.index_at.ensures.0 c.before.before.before.before.before.before.before.before.before.before.before.clause-at.ensures.0 c.before.before.before.before.before.before.before.before.before.before.before.before.before.before.production-key.ensures.0 _ _ w (not-false _ c.before.before.before.before.before.before.before.before.if1.false)) in (name-needs _ _ _ _ _ _ _ _ _ _ f g h _ c.before.before.before.before.before.before.before.before.before.before.before.before.before.before.before.before.before.before.before.before.before.before.requires.1.1 n.0 n.1 _ _ _ c.before.before.before.before.before.before.before.before.before.before.before.before.before.index_at.ensures.0 c.before.before.before.before.before.before.before.before.before.before.before.clause-at.ensures.0 c.before.before.before.before.before.before.before.before.before.before.before.before.before.before.production-key.ensures.0 _ _ w (not-false _ c.before.before.before.before.before.before.before.before.if1.false) _ _ r.0, r.1))
+name-need-returns-2 t c = (c.before.before.before.before.operands-need.ensures.0, c.before.before.before.before.operands-need.ensures.1, c.before.before.before.before.operands-need.ensures.2, λ f g h. let n = name_known _ _ _ _ _ _ _ _ _ _ f g h _ c.before.before.before.before.before.before.before.before.before.before.before.before.before.before.before.before.before.before.before.before.before.before.requires.1.1 c.before.before.before.before.before.before.before.before.before.before.before.before.before.before.before.before.before.before.before.before.before.before.requires.1.2 in let w = c.before.before.before.before.before.before.before.before.before.matches.ensures f _ _ n.0 g (asks_match _ _ _ _ _ _ _ _ _ _ f g h _ c.before.before.before.before.before.before.before.before.before.before.before.before.before.before.before.before.before.before.before.before.before.before.requires.1.1 n.0 n.1 _ _ _ c.before.before.before.before.before.before.before.before.before.before.before.before.before.index_at.ensures.0 c.before.before.before.before.before.before.before.before.before.before.before.clause-at.ensures.0 c.before.before.before.before.before.before.before.before.before.before.before.before.before.before.production-key.ensures.0 _ refl) in let r = c.before.before.before.before.operands-need.ensures.3 f n.0 _ (name_seeks _ _ _ _ _ _ _ _ _ _ f g h _ c.before.before.before.before.before.before.before.before.before.before.before.before.before.before.before.before.before.before.before.before.before.before.requires.1.1 n.0 n.1 _ _ _ c.before.before.before.before.before.before.before.before.before.before.before.before.before.index_at.ensures.0 c.before.before.before.before.before.before.before.before.before.before.before.clause-at.ensures.0 c.before.before.before.before.before.before.before.before.before.before.before.before.before.before.production-key.ensures.0 _ _ w (not-false _ c.before.before.before.before.before.before.before.before.if1.false)) in (name_needs _ _ _ _ _ _ _ _ _ _ f g h _ c.before.before.before.before.before.before.before.before.before.before.before.before.before.before.before.before.before.before.before.before.before.before.requires.1.1 n.0 n.1 _ _ _ c.before.before.before.before.before.before.before.before.before.before.before.before.before.index_at.ensures.0 c.before.before.before.before.before.before.before.before.before.before.before.clause-at.ensures.0 c.before.before.before.before.before.before.before.before.before.before.before.before.before.before.production-key.ensures.0 _ _ w (not-false _ c.before.before.before.before.before.before.before.before.if1.false) _ _ r.0, r.1))
 
 abbrev need-Inv-loop : need-lts.invariant-loop
 need-Inv-loop table source target places kinds tree memory₀ free₀ kind at m known class best₀ name₀ memory free best name = (name ≤ 256) × ((best ≤ m) × (name < 256 → 0 < best)) × (length memory ≡ length memory₀) × (length free ≡ length free₀) × Named table kind name × ((f : Translation) (g : Goal) → Seeks table source target places kinds tree memory₀ free₀ kind at f g → NeedsNamed f.source (clauses_of f) (m - 1) kind 0 name g best × Truthful f tree memory free)
@@ -130,16 +130,16 @@ need-index-at-requires : (t : ℕ) → need-lts.Need-index-at-requires (need-cal
 need-index-at-requires t c κs = omega (arith, c.before.before.before.before.before.before.before.before.before.before.before.requires.1.1.2.kind)
 
 need-class-need-requires : (t : ℕ) → need-lts.Need-class-need-requires (need-calls t) (need-at t) goal.Post need-Inv-loop need-μ-loop
-need-class-need-requires t c κs = let q = c.before.before.before.before.before.before.before.before.before.before.before.before.before.requires.1.1 in (class-positive _ _ _ _ _ _ _ _ _ _ q.0 q.1 q.2 _ c.before.index_at.ensures.0 c.if2.true, class-whole _ _ _ _ _ _ _ _ _ _ q.0 q.1 q.2 _ c.before.index_at.ensures.0 c.if2.true, c.before.before.before.before.before.before.before.before.before.before.before.before.before.requires.1.0)
+need-class-need-requires t c κs = let q = c.before.before.before.before.before.before.before.before.before.before.before.before.before.requires.1.1 in (class_positive _ _ _ _ _ _ _ _ _ _ q.0 q.1 q.2 _ c.before.index_at.ensures.0 c.if2.true, class_whole _ _ _ _ _ _ _ _ _ _ q.0 q.1 q.2 _ c.before.index_at.ensures.0 c.if2.true, c.before.before.before.before.before.before.before.before.before.before.before.before.before.requires.1.0)
 
 need-same-length-3 : (t : ℕ) → need-lts.Need-same-length-3 (need-calls t) (need-at t) goal.Post need-Inv-loop need-μ-loop
 need-same-length-3 t c = refl
 
 need-returns-2 : (t : ℕ) → need-lts.Need-returns-2 (need-calls t) (need-at t) goal.Post need-Inv-loop need-μ-loop
-need-returns-2 t c = let q = c.before.before.before.before.before.before.before.before.before.before.before.before.before.before.requires.1.1 in ((class-needs _ _ _ _ _ _ _ _ _ _ q.0 q.1 q.2 _ c.before.before.index_at.ensures.0 c.before.if2.true _ c.class-need.ensures).bound, refl, refl, λ f g h. (class-needs _ _ _ _ _ _ _ _ _ _ f g h _ c.before.before.index_at.ensures.0 c.before.if2.true _ c.class-need.ensures, h.truthful))
+need-returns-2 t c = let q = c.before.before.before.before.before.before.before.before.before.before.before.before.before.before.requires.1.1 in ((class_needs _ _ _ _ _ _ _ _ _ _ q.0 q.1 q.2 _ c.before.before.index_at.ensures.0 c.before.if2.true _ c.class-need.ensures).bound, refl, refl, λ f g h. (class_needs _ _ _ _ _ _ _ _ _ _ f g h _ c.before.before.index_at.ensures.0 c.before.if2.true _ c.class-need.ensures, h.truthful))
 
 need-returns-3 : (t : ℕ) → need-lts.Need-returns-3 (need-calls t) (need-at t) goal.Post need-Inv-loop need-μ-loop
-need-returns-3 t c = (omega arith, refl, refl, λ f g h. (zero-levels _ _ _ _ _ _ _ _ _ _ f g h (plain _ _ _ _ _ _ _ _ _ _ f g h _ c.before.before.index_at.ensures.0 c.before.if2.false) _ c.if3.true, h.truthful))
+need-returns-3 t c = (omega arith, refl, refl, λ f g h. (zero_levels _ _ _ _ _ _ _ _ _ _ f g h (plain _ _ _ _ _ _ _ _ _ _ f g h _ c.before.before.index_at.ensures.0 c.before.if2.false) _ c.if3.true, h.truthful))
 
 need-first-name-requires : (t : ℕ) → need-lts.Need-first-name-requires (need-calls t) (need-at t) goal.Post need-Inv-loop need-μ-loop
 need-first-name-requires t c κs = let q = c.before.before.before.before.before.before.before.before.before.before.before.before.before.before.requires.1.1 in (_, _, _, _, q.0, q.1, q.2)
@@ -172,7 +172,7 @@ need-add-result : (t : ℕ) → need-lts.Need-overflow-add-result (need-calls t)
 need-add-result t c = let x = c.before.before.before.before.before.before.before.before.loop.invariant.1.0 in let y = c.before.before.before.before.before.before.before.before.before.before.before.before.before.before.before.before.before.before.before.before.before.before.before.before.requires.1.0 in omega arith
 
 need-returns-4 : (t : ℕ) → need-lts.Need-returns-4 (need-calls t) (need-at t) goal.Post need-Inv-loop need-μ-loop
-need-returns-4 t c = let k = kept_long _ _ _ _ _ _ in (omega (arith, c.before.before.before.before.before.before.before.before.loop.invariant.1.0), ap_long c.before.before.before.before.keep.ensures.0 k.0 ∙ c.before.before.before.before.before.before.before.before.loop.invariant.2, ap_long c.before.before.before.before.keep.ensures.1 k.1 ∙ c.before.before.before.before.before.before.before.before.loop.invariant.3, λ f g h. let w = c.before.before.before.before.before.before.before.before.loop.invariant.5 f g h in let n = all-names _ _ _ _ _ _ _ _ _ _ f g h (plain _ _ _ _ _ _ _ _ _ _ f g h _ c.before.before.before.before.before.before.before.before.before.before.before.before.index_at.ensures.0 c.before.before.before.before.before.before.before.before.before.before.before.if2.false) _ c.before.before.before.before.before.before.before.before.before.before.if3.false _ _ c.before.before.before.before.before.before.before.loop-test.false c.before.before.before.before.before.before.before.before.loop.invariant.0 w.0 in (n, same_truth c.before.before.before.before.keep.ensures.0 c.before.before.before.before.keep.ensures.1 (keeps_true _ _ _ _ _ _ _ _ _ _ f g h _ _ w.1 _ _ c.before.before.before.before.before.before.before.before.before.before.before.before.before.before.before.before.before.before.before.before.before.before.before.before.requires.1.0 n)))
+need-returns-4 t c = let k = kept_long _ _ _ _ _ _ in (omega (arith, c.before.before.before.before.before.before.before.before.loop.invariant.1.0), ap_long c.before.before.before.before.keep.ensures.0 k.0 ∙ c.before.before.before.before.before.before.before.before.loop.invariant.2, ap_long c.before.before.before.before.keep.ensures.1 k.1 ∙ c.before.before.before.before.before.before.before.before.loop.invariant.3, λ f g h. let w = c.before.before.before.before.before.before.before.before.loop.invariant.5 f g h in let n = all_names _ _ _ _ _ _ _ _ _ _ f g h (plain _ _ _ _ _ _ _ _ _ _ f g h _ c.before.before.before.before.before.before.before.before.before.before.before.before.index_at.ensures.0 c.before.before.before.before.before.before.before.before.before.before.before.if2.false) _ c.before.before.before.before.before.before.before.before.before.before.if3.false _ _ c.before.before.before.before.before.before.before.loop-test.false c.before.before.before.before.before.before.before.before.loop.invariant.0 w.0 in (n, same_truth c.before.before.before.before.keep.ensures.0 c.before.before.before.before.keep.ensures.1 (keeps_true _ _ _ _ _ _ _ _ _ _ f g h _ _ w.1 _ _ c.before.before.before.before.before.before.before.before.before.before.before.before.before.before.before.before.before.before.before.before.before.before.before.before.requires.1.0 n)))
 
 abbrev operands-need-Inv-loop : operands-need-lts.invariant-loop
 operands-need-Inv-loop table source target places kinds tree memory₀ free₀ place bound m j₀ most₀ memory free j most = (j ≤ 8) × (most ≤ suc m) × (length memory ≡ length memory₀) × (length free ≡ length free₀) × ((f : Translation) (ks : List ℕ) (b : ℕ → Goal) → SeeksAll table source target places kinds tree memory₀ free₀ bound place f ks b → (j ≤ length ks) × NeedsAll f.source (clauses_of f) m (drop j ks) (λ i. b (i + j)) most × Truthful f tree memory free)
@@ -202,7 +202,7 @@ operands-need-add-source-at-2 : (t : ℕ) → operands-need-lts.Need-overflow-ad
 operands-need-add-source-at-2 t c = let q = c.before.before.before.before.before.before.before.before.before.before.before.requires.1.1 in let x = count_inside _ _ _ _ _ _ _ _ _ _ q.0 q.1 q.2 q.3 in omega (arith, c.first-operand.ensures, c.before.before.loop.invariant.0)
 
 operands-need-source-at-requires-2 : (t : ℕ) → operands-need-lts.Need-source-at-requires-2 (operands-need-calls t) (operands-need-at t) operands-need.Post operands-need-Inv-loop operands-need-μ-loop
-operands-need-source-at-requires-2 t c κs = let q = c.before.before.before.before.before.before.before.before.before.before.before.requires.1.1 in let w = c.before.before.loop.invariant.4 q.0 q.1 q.2 q.3 in let y = c.before.loop-test.true in kind-inside _ _ _ _ _ _ _ _ _ _ q.0 q.1 q.2 q.3 _ (omega (arith, w.0, y)) c.first-operand.ensures
+operands-need-source-at-requires-2 t c κs = let q = c.before.before.before.before.before.before.before.before.before.before.before.requires.1.1 in let w = c.before.before.loop.invariant.4 q.0 q.1 q.2 q.3 in let y = c.before.loop-test.true in kind_inside _ _ _ _ _ _ _ _ _ _ q.0 q.1 q.2 q.3 _ (omega (arith, w.0, y)) c.first-operand.ensures
 
 operands-need-mul-at : (t : ℕ) → operands-need-lts.Need-overflow-mul-at (operands-need-calls t) (operands-need-at t) operands-need.Post operands-need-Inv-loop operands-need-μ-loop
 operands-need-mul-at t c = omega (arith, c.before.before.before.loop.invariant.0, c.before.before.loop-test.true)
@@ -211,7 +211,7 @@ operands-need-element-copy-out-at : (t : ℕ) → operands-need-lts.Need-element
 operands-need-element-copy-out-at t c = omega (arith, c.before.before.before.loop.invariant.0, c.before.before.loop-test.true)
 
 operands-need-need-requires : (t : ℕ) → operands-need-lts.Need-need-requires (operands-need-calls t) (operands-need-at t) operands-need.Post operands-need-Inv-loop operands-need-μ-loop
-operands-need-need-requires t c κs = let q = c.before.before.before.before.before.before.before.before.before.before.before.before.before.before.before.requires.1.1 in let w = c.before.before.before.before.before.before.loop.invariant.4 q.0 q.1 q.2 q.3 in let y = c.before.before.before.before.before.loop-test.true in (omega (arith, c.before.before.before.before.before.before.before.before.before.before.before.before.before.before.before.requires.0), (c.before.before.before.before.before.before.before.before.before.before.before.before.before.before.before.requires.1.0, (q.0, _, operand-seeks _ _ _ _ _ _ _ _ _ _ q.0 q.1 q.2 q.3 _ (omega (arith, w.0, y)) _ _ w.2 c.before.before.before.before.first-operand.ensures c.before.before.before.source-at2.ensures.0)))
+operands-need-need-requires t c κs = let q = c.before.before.before.before.before.before.before.before.before.before.before.before.before.before.before.requires.1.1 in let w = c.before.before.before.before.before.before.loop.invariant.4 q.0 q.1 q.2 q.3 in let y = c.before.before.before.before.before.loop-test.true in (omega (arith, c.before.before.before.before.before.before.before.before.before.before.before.before.before.before.before.requires.0), (c.before.before.before.before.before.before.before.before.before.before.before.before.before.before.before.requires.1.0, (q.0, _, operand_seeks _ _ _ _ _ _ _ _ _ _ q.0 q.1 q.2 q.3 _ (omega (arith, w.0, y)) _ _ w.2 c.before.before.before.before.first-operand.ensures c.before.before.before.source-at2.ensures.0)))
 
 operands-need-add-result : (t : ℕ) → operands-need-lts.Need-overflow-add-result (operands-need-calls t) (operands-need-at t) operands-need.Post operands-need-Inv-loop operands-need-μ-loop
 operands-need-add-result t c = omega (arith, c.before.before.before.before.before.before.before.before.before.before.before.before.before.before.before.before.before.before.before.before.before.requires.1.0)
@@ -220,7 +220,7 @@ operands-need-same-length : (t : ℕ) → operands-need-lts.Need-same-length (op
 operands-need-same-length t c = c.before.before.before.before.before.need.ensures.1 ∙ c.before.before.before.before.before.before.before.before.before.before.before.before.loop.invariant.2
 
 operands-need-returns : (t : ℕ) → operands-need-lts.Need-returns (operands-need-calls t) (operands-need-at t) operands-need.Post operands-need-Inv-loop operands-need-μ-loop
-operands-need-returns t c = (omega arith, c.before.before.before.before.before.need.ensures.1 ∙ c.before.before.before.before.before.before.before.before.before.before.before.before.loop.invariant.2, c.before.before.before.before.before.need.ensures.2 ∙ c.before.before.before.before.before.before.before.before.before.before.before.before.loop.invariant.3, λ f ks b h. let w = c.before.before.before.before.before.before.before.before.before.before.before.before.loop.invariant.4 f ks b h in let y = c.before.before.before.before.before.before.before.before.before.before.before.loop-test.true in let r = c.before.before.before.before.before.need.ensures.3 f _ (operand-seeks _ _ _ _ _ _ _ _ _ _ f ks b h _ (omega (arith, w.0, y)) _ _ w.2 c.before.before.before.before.before.before.before.before.before.before.first-operand.ensures c.before.before.before.before.before.before.before.before.before.source-at2.ensures.0) in (operands_stop _ _ _ ks b _ _ _ (omega (arith, w.0, y)) (operand-kind _ _ _ _ _ _ _ _ _ _ f ks b h _ (omega (arith, w.0, y)) c.before.before.before.before.before.before.before.before.before.before.first-operand.ensures c.before.before.before.before.before.before.before.before.before.source-at2.ensures.0) r.0 c.if1.true, r.1))
+operands-need-returns t c = (omega arith, c.before.before.before.before.before.need.ensures.1 ∙ c.before.before.before.before.before.before.before.before.before.before.before.before.loop.invariant.2, c.before.before.before.before.before.need.ensures.2 ∙ c.before.before.before.before.before.before.before.before.before.before.before.before.loop.invariant.3, λ f ks b h. let w = c.before.before.before.before.before.before.before.before.before.before.before.before.loop.invariant.4 f ks b h in let y = c.before.before.before.before.before.before.before.before.before.before.before.loop-test.true in let r = c.before.before.before.before.before.need.ensures.3 f _ (operand_seeks _ _ _ _ _ _ _ _ _ _ f ks b h _ (omega (arith, w.0, y)) _ _ w.2 c.before.before.before.before.before.before.before.before.before.before.first-operand.ensures c.before.before.before.before.before.before.before.before.before.source-at2.ensures.0) in (operands_stop _ _ _ ks b _ _ _ (omega (arith, w.0, y)) (operand_kind _ _ _ _ _ _ _ _ _ _ f ks b h _ (omega (arith, w.0, y)) c.before.before.before.before.before.before.before.before.before.before.first-operand.ensures c.before.before.before.before.before.before.before.before.before.source-at2.ensures.0) r.0 c.if1.true, r.1))
 
 operands-need-larger-requires : (t : ℕ) → operands-need-lts.Need-larger-requires (operands-need-calls t) (operands-need-at t) operands-need.Post operands-need-Inv-loop operands-need-μ-loop
 operands-need-larger-requires t c κs = tt
@@ -229,7 +229,7 @@ operands-need-loop-less : (t : ℕ) → operands-need-lts.Need-loop-smaller (ope
 operands-need-loop-less t c = omega (arith, c.before.before.before.before.before.before.before.before.before.before.before.before.loop-test.true)
 
 operands-need-loop-again : (t : ℕ) → operands-need-lts.Need-loop-preserved (operands-need-calls t) (operands-need-at t) operands-need.Post operands-need-Inv-loop operands-need-μ-loop
-operands-need-loop-again t c = (omega (arith, c.before.before.before.before.before.before.before.before.before.before.before.before.before.loop.invariant.0), omega (arith, c.larger.ensures, c.before.before.before.before.before.before.need.ensures.0, c.before.before.before.before.before.before.before.before.before.before.before.before.before.loop.invariant.1), c.before.before.before.before.before.before.need.ensures.1 ∙ c.before.before.before.before.before.before.before.before.before.before.before.before.before.loop.invariant.2, c.before.before.before.before.before.before.need.ensures.2 ∙ c.before.before.before.before.before.before.before.before.before.before.before.before.before.loop.invariant.3, λ f ks b h. let w = c.before.before.before.before.before.before.before.before.before.before.before.before.before.loop.invariant.4 f ks b h in let y = c.before.before.before.before.before.before.before.before.before.before.before.before.loop-test.true in let r = c.before.before.before.before.before.before.need.ensures.3 f _ (operand-seeks _ _ _ _ _ _ _ _ _ _ f ks b h _ (omega (arith, w.0, y)) _ _ w.2 c.before.before.before.before.before.before.before.before.before.before.before.first-operand.ensures c.before.before.before.before.before.before.before.before.before.before.source-at2.ensures.0) in (omega (arith, w.0), operands_next _ _ _ ks b _ _ _ _ _ y w.0 (operand-kind _ _ _ _ _ _ _ _ _ _ f ks b h _ (omega (arith, w.0, y)) c.before.before.before.before.before.before.before.before.before.before.before.first-operand.ensures c.before.before.before.before.before.before.before.before.before.before.source-at2.ensures.0) r.0 w.1 c.larger.ensures, r.1))
+operands-need-loop-again t c = (omega (arith, c.before.before.before.before.before.before.before.before.before.before.before.before.before.loop.invariant.0), omega (arith, c.larger.ensures, c.before.before.before.before.before.before.need.ensures.0, c.before.before.before.before.before.before.before.before.before.before.before.before.before.loop.invariant.1), c.before.before.before.before.before.before.need.ensures.1 ∙ c.before.before.before.before.before.before.before.before.before.before.before.before.before.loop.invariant.2, c.before.before.before.before.before.before.need.ensures.2 ∙ c.before.before.before.before.before.before.before.before.before.before.before.before.before.loop.invariant.3, λ f ks b h. let w = c.before.before.before.before.before.before.before.before.before.before.before.before.before.loop.invariant.4 f ks b h in let y = c.before.before.before.before.before.before.before.before.before.before.before.before.loop-test.true in let r = c.before.before.before.before.before.before.need.ensures.3 f _ (operand_seeks _ _ _ _ _ _ _ _ _ _ f ks b h _ (omega (arith, w.0, y)) _ _ w.2 c.before.before.before.before.before.before.before.before.before.before.before.first-operand.ensures c.before.before.before.before.before.before.before.before.before.before.source-at2.ensures.0) in (omega (arith, w.0), operands_next _ _ _ ks b _ _ _ _ _ y w.0 (operand_kind _ _ _ _ _ _ _ _ _ _ f ks b h _ (omega (arith, w.0, y)) c.before.before.before.before.before.before.before.before.before.before.before.first-operand.ensures c.before.before.before.before.before.before.before.before.before.before.source-at2.ensures.0) r.0 w.1 c.larger.ensures, r.1))
 
 operands-need-returns-2 : (t : ℕ) → operands-need-lts.Need-returns-2 (operands-need-calls t) (operands-need-at t) operands-need.Post operands-need-Inv-loop operands-need-μ-loop
 operands-need-returns-2 t c = (c.before.loop.invariant.1, c.before.loop.invariant.2, c.before.loop.invariant.3, λ f ks b h. let w = c.before.loop.invariant.4 f ks b h in (operands_end _ _ _ ks b _ _ (omega (arith, c.loop-test.false)) w.1, w.2))

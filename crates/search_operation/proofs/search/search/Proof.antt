@@ -2,7 +2,7 @@ use borrow.Author.Tests.{not-true, not-false}
 use mathlib.Core.Path.{sym, ◌∙◌}
 use Rattle.tree_reader.proofs.Lookup.{zeros}
 use Rattle.format_translation.proofs.Accepted.{accepts}
-use Rattle.search_operation.proofs.Wrapping.{search_refused, parts_tabled, body_there, search-numbered, search-plain}
+use Rattle.search_operation.proofs.Wrapping.{search_refused, parts_tabled, body_there, search_numbered, search_plain}
 use borrow.Author.Rules.{rules}
 use Rattle.search_operation.proofs.search.search.Statement.{statement}
 use Rattle.search_operation.proofs.search.search.Tie as tie
@@ -41,7 +41,7 @@ refuse-requires-2 : tie.Need-refuse-requires-2
 refuse-requires-2 c κs = search rules
 
 returns-2 : tie.Need-returns-2
-returns-2 c = let a = accepts _ c.before.before.before.before.before.before.open-translation.ensures.0 c.before.before.before.before.enum_told.given.1 in search-numbered _ _ _ _ _ _ _ a.translation a.is (sym (c.before.before.is_plain.ensures a.translation.body (body_there _ a.translation a.is c.before.before.before.body_of.ensures)) ∙ not-true _ c.before.if1.true) c.refuse2.ensures
+returns-2 c = let a = accepts _ c.before.before.before.before.before.before.open-translation.ensures.0 c.before.before.before.before.enum_told.given.1 in search_numbered _ _ _ _ _ _ _ a.translation a.is (sym (c.before.before.is_plain.ensures a.translation.body (body_there _ a.translation a.is c.before.before.before.body_of.ensures)) ∙ not-true _ c.before.if1.true) c.refuse2.ensures
 
 source-of-requires : tie.Need-source-of-requires
 source-of-requires c κs = let a = accepts _ c.before.before.before.before.before.before.before.open-translation.ensures.0 c.before.before.before.before.before.enum_told.given.1 in (a.translation, a.is)
@@ -59,7 +59,7 @@ same-length-2 : tie.Need-same-length-2
 same-length-2 c = search rules
 
 returns-3 : tie.Need-returns-3
-returns-3 c = let a = accepts _ c.before.before.before.before.before.before.before.before.before.before.before.before.before.before.before.before.open-translation.ensures.0 c.before.before.before.before.before.before.before.before.before.before.before.before.before.before.enum_told.given.1 in search-plain _ _ _ _ _ _ _ a.translation a.is _ _ (sym (c.before.before.before.before.before.before.before.before.before.before.before.before.is_plain.ensures a.translation.body (body_there _ a.translation a.is c.before.before.before.before.before.before.before.before.before.before.before.before.before.body_of.ensures)) ∙ not-false _ c.before.before.before.before.before.before.before.before.before.before.before.if1.false) (c.before.before.before.before.search-from.ensures a.translation (parts_tabled _ a.translation a.is (sym (c.before.before.before.before.before.before.before.before.before.before.before.before.is_plain.ensures a.translation.body (body_there _ a.translation a.is c.before.before.before.before.before.before.before.before.before.before.before.before.before.body_of.ensures)) ∙ not-false _ c.before.before.before.before.before.before.before.before.before.before.before.if1.false) c.before.before.before.before.before.before.before.before.source_of.ensures c.before.before.before.before.before.before.before.target-of.ensures (c.before.before.before.before.before.before.before.before.before.before.before.before.before.before.before.before.open-translation.ensures.1 a.translation a.is)))
+returns-3 c = let a = accepts _ c.before.before.before.before.before.before.before.before.before.before.before.before.before.before.before.before.open-translation.ensures.0 c.before.before.before.before.before.before.before.before.before.before.before.before.before.before.enum_told.given.1 in search_plain _ _ _ _ _ _ _ a.translation a.is _ _ (sym (c.before.before.before.before.before.before.before.before.before.before.before.before.is_plain.ensures a.translation.body (body_there _ a.translation a.is c.before.before.before.before.before.before.before.before.before.before.before.before.before.body_of.ensures)) ∙ not-false _ c.before.before.before.before.before.before.before.before.before.before.before.if1.false) (c.before.before.before.before.search-from.ensures a.translation (parts_tabled _ a.translation a.is (sym (c.before.before.before.before.before.before.before.before.before.before.before.before.is_plain.ensures a.translation.body (body_there _ a.translation a.is c.before.before.before.before.before.before.before.before.before.before.before.before.before.body_of.ensures)) ∙ not-false _ c.before.before.before.before.before.before.before.before.before.before.before.if1.false) c.before.before.before.before.before.before.before.before.source_of.ensures c.before.before.before.before.before.before.before.target-of.ensures (c.before.before.before.before.before.before.before.before.before.before.before.before.before.before.before.before.open-translation.ensures.1 a.translation a.is)))
 
 pub search-spec : {M : Type 1} → statement M
 search-spec =

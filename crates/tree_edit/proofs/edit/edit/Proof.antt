@@ -2,7 +2,7 @@ use mathlib.Core.Path.{refl}
 use native.Mathlib.Omega.{arith}
 use Rattle.tree_reader.proofs.Lookup.{zeros}
 use Rattle.format_card.specs.Card.{sees}
-use Rattle.tree_edit.proofs.Carded.{set_of_card, edit-refused, legal, root_small, owns, edit-given}
+use Rattle.tree_edit.proofs.Carded.{set_of_card, edit_refused, legal, root_small, owns, edit_given}
 use borrow.Author.Rules.{rules}
 use Rattle.tree_edit.proofs.edit.edit.Statement.{statement}
 use Rattle.tree_edit.proofs.edit.edit.Tie as tie
@@ -18,7 +18,7 @@ check-own-requires : tie.Need-check-own-requires
 check-own-requires c κs = (refl, zeros 8224)
 
 returns : tie.Need-returns
-returns c = edit-refused _ _ _ _ _ c.before.before.before.before.before.before.check-own.ensures.0 c.before.before.before.before.before.before.before.before.read-card.ensures.outcome c.before.before.before.before.lowest.ensures _ _ _ _ c.before.before.reason.given.1 _ c.refuse-edit.ensures
+returns c = edit_refused _ _ _ _ _ c.before.before.before.before.before.before.check-own.ensures.0 c.before.before.before.before.before.before.before.before.read-card.ensures.outcome c.before.before.before.before.lowest.ensures _ _ _ _ c.before.before.reason.given.1 _ c.refuse-edit.ensures
 
 cast-edit-legal : tie.Need-overflow-cast-edit-legal
 cast-edit-legal c = let w = root_small _ _ _ _ _ c.before.before.before.before.before.check-own.ensures.0 c.before.before.before.before.before.before.before.read-card.ensures.outcome c.before.before.before.lowest.ensures (legal _ _ _ _ _ c.before.before.before.before.before.check-own.ensures.0 c.before.before.before.before.before.before.before.read-card.ensures.outcome c.before.before.before.lowest.ensures c.before.enum_told.given.1) in omega arith
@@ -27,7 +27,7 @@ edit-legal-requires : tie.Need-edit-legal-requires
 edit-legal-requires c κs = let w = legal _ _ _ _ _ c.before.before.before.before.before.before.before.check-own.ensures.0 c.before.before.before.before.before.before.before.before.before.read-card.ensures.outcome c.before.before.before.before.before.lowest.ensures c.before.before.before.enum_told.given.1 in (w.owned.language, w.owned.subject, owns _ _ _ _ _ c.before.before.before.before.before.before.before.check-own.ensures.0 c.before.before.before.before.before.before.before.before.before.read-card.ensures.outcome c.before.before.before.before.before.lowest.ensures w _ (λ j. omega (arith, c.before.before.before.before.before.before.before.before.before.before.before.before.before.before.before.before.shared-slice-known2.given j)) c.before.before.before.before.before.before.before.check-own.ensures.1)
 
 returns-2 : tie.Need-returns-2
-returns-2 c = let w = legal _ _ _ _ _ c.before.before.before.before.before.before.before.before.before.before.before.before.check-own.ensures.0 c.before.before.before.before.before.before.before.before.before.before.before.before.before.before.read-card.ensures.outcome c.before.before.before.before.before.before.before.before.before.before.lowest.ensures c.before.before.before.before.before.before.before.before.enum_told.given.1 in edit-given _ _ _ _ _ c.before.before.before.before.before.before.before.before.before.before.before.before.check-own.ensures.0 c.before.before.before.before.before.before.before.before.before.before.before.before.before.before.read-card.ensures.outcome c.before.before.before.before.before.before.before.before.before.before.lowest.ensures w _ _ _ _ _ _ _ (c.before.before.before.before.edit-legal.ensures _ _ (sees w.card) (owns _ _ _ _ _ c.before.before.before.before.before.before.before.before.before.before.before.before.check-own.ensures.0 c.before.before.before.before.before.before.before.before.before.before.before.before.before.before.read-card.ensures.outcome c.before.before.before.before.before.before.before.before.before.before.lowest.ensures w _ (λ j. omega (arith, c.before.before.before.before.before.before.before.before.before.before.before.before.before.before.before.before.before.before.before.before.before.shared-slice-known2.given j)) c.before.before.before.before.before.before.before.before.before.before.before.before.check-own.ensures.1) (set_of_card _ w.card (c.before.before.before.before.before.before.before.before.before.before.before.before.before.before.read-card.ensures.holds _ w.card-is)))
+returns-2 c = let w = legal _ _ _ _ _ c.before.before.before.before.before.before.before.before.before.before.before.before.check-own.ensures.0 c.before.before.before.before.before.before.before.before.before.before.before.before.before.before.read-card.ensures.outcome c.before.before.before.before.before.before.before.before.before.before.lowest.ensures c.before.before.before.before.before.before.before.before.enum_told.given.1 in edit_given _ _ _ _ _ c.before.before.before.before.before.before.before.before.before.before.before.before.check-own.ensures.0 c.before.before.before.before.before.before.before.before.before.before.before.before.before.before.read-card.ensures.outcome c.before.before.before.before.before.before.before.before.before.before.lowest.ensures w _ _ _ _ _ _ _ (c.before.before.before.before.edit-legal.ensures _ _ (sees w.card) (owns _ _ _ _ _ c.before.before.before.before.before.before.before.before.before.before.before.before.check-own.ensures.0 c.before.before.before.before.before.before.before.before.before.before.before.before.before.before.read-card.ensures.outcome c.before.before.before.before.before.before.before.before.before.before.lowest.ensures w _ (λ j. omega (arith, c.before.before.before.before.before.before.before.before.before.before.before.before.before.before.before.before.before.before.before.before.before.shared-slice-known2.given j)) c.before.before.before.before.before.before.before.before.before.before.before.before.check-own.ensures.1) (set_of_card _ w.card (c.before.before.before.before.before.before.before.before.before.before.before.before.before.before.read-card.ensures.holds _ w.card-is)))
 
 pub edit-spec : {M : Type 1} → statement M
 edit-spec =

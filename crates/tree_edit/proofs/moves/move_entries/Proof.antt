@@ -6,7 +6,7 @@ use lib.ListN.{length}
 use borrow.Author.Rules.{rules}
 use Rattle.tree_index.specs.Spans.{Span}
 use Rattle.tree_edit.specs.Inner.Moving.{Part}
-use Rattle.tree_edit.proofs.Entries.{Moving, move_begin, move-inside, move-fits, move-apart, move-next, move_done}
+use Rattle.tree_edit.proofs.Entries.{Moving, move_begin, move_inside, move_fits, move_apart, move_next, move_done}
 use Rattle.tree_edit.proofs.moves.move_entries.Statement.{statement}
 use Rattle.tree_edit.proofs.moves.move_entries.Tie as tie
 use Rattle.tree_edit.proofs.moves.move_entries.Reads as reads
@@ -24,16 +24,16 @@ loop-holds : tie.Need-loop-init invariant-loop decreases-loop
 loop-holds c = (refl, λ l h. move_begin _ _ _ _ _ _ _ _ l h)
 
 move-entry-requires : tie.Need-move-entry-requires invariant-loop decreases-loop
-move-entry-requires c κs = let w = (c.before.before.loop.invariant.1 c.before.before.before.before.before.requires.3.1 c.before.before.before.before.before.requires.3.2) in let y = move-inside _ _ _ _ _ _ _ _ _ _ _ c.before.before.before.before.before.requires.3.1 w c.before.loop-test.true in (y.0, omega (arith, y.1, c.before.before.before.before.before.requires.0, c.before.before.loop.invariant.0), omega (arith, y.1, c.before.before.before.before.before.requires.1), c.before.before.before.before.before.requires.2, move-fits _ _ _ _ _ _ _ _ _ _ _ c.before.before.before.before.before.requires.3.1 w c.before.loop-test.true _ c.before.before.before.before.before.requires.3.3 c.before.before.before.before.before.requires.3.4, move-apart _ _ _ _ _ _ _ _ _ _ _ c.before.before.before.before.before.requires.3.1 w c.before.loop-test.true _ c.before.before.before.before.before.requires.3.3 c.before.before.before.before.before.requires.3.4)
+move-entry-requires c κs = let w = (c.before.before.loop.invariant.1 c.before.before.before.before.before.requires.3.1 c.before.before.before.before.before.requires.3.2) in let y = move_inside _ _ _ _ _ _ _ _ _ _ _ c.before.before.before.before.before.requires.3.1 w c.before.loop-test.true in (y.0, omega (arith, y.1, c.before.before.before.before.before.requires.0, c.before.before.loop.invariant.0), omega (arith, y.1, c.before.before.before.before.before.requires.1), c.before.before.before.before.before.requires.2, move_fits _ _ _ _ _ _ _ _ _ _ _ c.before.before.before.before.before.requires.3.1 w c.before.loop-test.true _ c.before.before.before.before.before.requires.3.3 c.before.before.before.before.before.requires.3.4, move_apart _ _ _ _ _ _ _ _ _ _ _ c.before.before.before.before.before.requires.3.1 w c.before.loop-test.true _ c.before.before.before.before.before.requires.3.3 c.before.before.before.before.before.requires.3.4)
 
 add-p : tie.Need-overflow-add-p invariant-loop decreases-loop
-add-p c = let y = move-inside _ _ _ _ _ _ _ _ _ _ _ c.before.before.before.before.before.before.before.before.requires.3.1 (c.before.before.before.before.before.loop.invariant.1 c.before.before.before.before.before.before.before.before.requires.3.1 c.before.before.before.before.before.before.before.before.requires.3.2) c.before.before.before.before.loop-test.true in omega (arith, y.0)
+add-p c = let y = move_inside _ _ _ _ _ _ _ _ _ _ _ c.before.before.before.before.before.before.before.before.requires.3.1 (c.before.before.before.before.before.loop.invariant.1 c.before.before.before.before.before.before.before.before.requires.3.1 c.before.before.before.before.before.before.before.before.requires.3.2) c.before.before.before.before.loop-test.true in omega (arith, y.0)
 
 add-m : tie.Need-overflow-add-m invariant-loop decreases-loop
-add-m c = let y = move-inside _ _ _ _ _ _ _ _ _ _ _ c.before.before.before.before.before.before.before.before.requires.3.1 (c.before.before.before.before.before.loop.invariant.1 c.before.before.before.before.before.before.before.before.requires.3.1 c.before.before.before.before.before.before.before.before.requires.3.2) c.before.before.before.before.loop-test.true in omega (arith, y.1, c.before.before.before.before.before.before.before.before.requires.1)
+add-m c = let y = move_inside _ _ _ _ _ _ _ _ _ _ _ c.before.before.before.before.before.before.before.before.requires.3.1 (c.before.before.before.before.before.loop.invariant.1 c.before.before.before.before.before.before.before.before.requires.3.1 c.before.before.before.before.before.before.before.before.requires.3.2) c.before.before.before.before.loop-test.true in omega (arith, y.1, c.before.before.before.before.before.before.before.before.requires.1)
 
 loop-again : tie.Need-loop-preserved invariant-loop decreases-loop
-loop-again c = (c.before.before.move-entry.auto.1.1.1.1.1.0 ∙ c.before.before.before.before.before.loop.invariant.0, λ l h. move-next _ _ _ _ _ _ _ _ _ _ _ l (c.before.before.before.before.before.loop.invariant.1 l h) c.before.before.before.before.loop-test.true c.before.before.before.before.before.before.before.before.requires.0 _ c.before.before.move-entry.ensures)
+loop-again c = (c.before.before.move-entry.auto.1.1.1.1.1.0 ∙ c.before.before.before.before.before.loop.invariant.0, λ l h. move_next _ _ _ _ _ _ _ _ _ _ _ l (c.before.before.before.before.before.loop.invariant.1 l h) c.before.before.before.before.loop-test.true c.before.before.before.before.before.before.before.before.requires.0 _ c.before.before.move-entry.ensures)
 
 returns : tie.Need-returns invariant-loop decreases-loop
 returns c = λ l h. move_done _ _ _ _ _ _ _ _ _ _ _ l (c.before.loop.invariant.1 l h) c.loop-test.false

@@ -3,7 +3,7 @@ use native.Mathlib.Omega.{arith}
 use borrow.Author.Tests.{not-true, not-false}
 use Rattle.format_translation.proofs.Accepted.{refused_not}
 use Rattle.tree_index.proofs.Checking.{checked_tree, root_small, tree_there}
-use Rattle.tree_index.proofs.Owning.{own_refused, own_long, own-other, own-accepted}
+use Rattle.tree_index.proofs.Owning.{own_refused, own_long, own_other, own_accepted}
 use borrow.Author.Rules.{rules}
 use Rattle.tree_index.proofs.build.check_own.Statement.{statement}
 use Rattle.tree_index.proofs.build.check_own.Tie as tie
@@ -27,10 +27,10 @@ is-own-requires : tie.Need-is-own-requires
 is-own-requires c κs = (c.before.if1.false, ((checked_tree _ _ _ c.before.before.before.before.before.before.check-indexed.ensures.0 c.before.before.enum_told.given.1).language, (checked_tree _ _ _ c.before.before.before.before.before.before.check-indexed.ensures.0 c.before.before.enum_told.given.1).subject, tree_there _ _ _ c.before.before.before.before.before.before.check-indexed.ensures.0 c.before.before.enum_told.given.1 _ (λ i. omega (arith, c.before.before.before.before.before.before.before.before.before.before.shared-slice-known2.given i)) c.before.before.before.before.before.before.check-indexed.ensures.1))
 
 returns-3 : tie.Need-returns-3
-returns-3 c = (own-other _ _ _ _ c.before.before.before.before.before.before.before.before.before.check-indexed.ensures.0 c.before.before.before.before.before.enum_told.given.1 c.before.before.before.before.if1.false _ (c.before.before.is-own.ensures _ _ (tree_there _ _ _ c.before.before.before.before.before.before.before.before.before.check-indexed.ensures.0 c.before.before.before.before.before.enum_told.given.1 _ (λ i. omega (arith, c.before.before.before.before.before.before.before.before.before.before.before.before.before.shared-slice-known2.given i)) c.before.before.before.before.before.before.before.before.before.check-indexed.ensures.1)) (not-true _ c.before.if2.true) c.refuse3.ensures, λ n l q e. refused_not (sym c.refuse3.ensures ∙ q))
+returns-3 c = (own_other _ _ _ _ c.before.before.before.before.before.before.before.before.before.check-indexed.ensures.0 c.before.before.before.before.before.enum_told.given.1 c.before.before.before.before.if1.false _ (c.before.before.is-own.ensures _ _ (tree_there _ _ _ c.before.before.before.before.before.before.before.before.before.check-indexed.ensures.0 c.before.before.before.before.before.enum_told.given.1 _ (λ i. omega (arith, c.before.before.before.before.before.before.before.before.before.before.before.before.before.shared-slice-known2.given i)) c.before.before.before.before.before.before.before.before.before.check-indexed.ensures.1)) (not-true _ c.before.if2.true) c.refuse3.ensures, λ n l q e. refused_not (sym c.refuse3.ensures ∙ q))
 
 returns-4 : tie.Need-returns-4
-returns-4 c = (own-accepted _ _ _ _ c.before.before.before.before.before.before.before.before.before.check-indexed.ensures.0 c.before.before.before.before.before.enum_told.given.1 c.before.before.before.before.if1.false _ (c.before.before.is-own.ensures _ _ (tree_there _ _ _ c.before.before.before.before.before.before.before.before.before.check-indexed.ensures.0 c.before.before.before.before.before.enum_told.given.1 _ (λ i. omega (arith, c.before.before.before.before.before.before.before.before.before.before.before.before.before.shared-slice-known2.given i)) c.before.before.before.before.before.before.before.before.before.check-indexed.ensures.1)) (not-false _ c.before.if2.false) c.accept.ensures, λ n l q e. c.before.before.before.before.before.before.before.before.before.check-indexed.ensures.1 _ l c.before.before.before.before.before.enum_told.given.1 e)
+returns-4 c = (own_accepted _ _ _ _ c.before.before.before.before.before.before.before.before.before.check-indexed.ensures.0 c.before.before.before.before.before.enum_told.given.1 c.before.before.before.before.if1.false _ (c.before.before.is-own.ensures _ _ (tree_there _ _ _ c.before.before.before.before.before.before.before.before.before.check-indexed.ensures.0 c.before.before.before.before.before.enum_told.given.1 _ (λ i. omega (arith, c.before.before.before.before.before.before.before.before.before.before.before.before.before.shared-slice-known2.given i)) c.before.before.before.before.before.before.before.before.before.check-indexed.ensures.1)) (not-false _ c.before.if2.false) c.accept.ensures, λ n l q e. c.before.before.before.before.before.before.before.before.before.check-indexed.ensures.1 _ l c.before.before.before.before.before.enum_told.given.1 e)
 
 pub check-own-spec : {M : Type 1} → statement M
 check-own-spec =

@@ -2,7 +2,7 @@ use mathlib.Core.Path.{refl}
 use native.Mathlib.Omega.{arith}
 use Rattle.tree_reader.proofs.Lookup.{zeros}
 use Rattle.tree_index.proofs.Checking.{checked_tree, root_small, tree_there}
-use Rattle.tree_index.proofs.Building.{index_refused, index_long, index-given}
+use Rattle.tree_index.proofs.Building.{index_refused, index_long, index_given}
 use borrow.Author.Rules.{rules}
 use Rattle.tree_index.proofs.build.index.Statement.{statement}
 use Rattle.tree_index.proofs.build.index.Tie as tie
@@ -28,7 +28,7 @@ index-legal-requires : tie.Need-index-legal-requires
 index-legal-requires c κs = (c.before.before.if1.false, ((checked_tree _ _ _ c.before.before.before.before.before.before.check-indexed.ensures.0 c.before.before.before.enum_told.given.1).language, (checked_tree _ _ _ c.before.before.before.before.before.before.check-indexed.ensures.0 c.before.before.before.enum_told.given.1).subject, tree_there _ _ _ c.before.before.before.before.before.before.check-indexed.ensures.0 c.before.before.before.enum_told.given.1 _ (λ i. omega (arith, c.before.before.before.before.before.before.before.before.before.shared-slice-known2.given i)) c.before.before.before.before.before.before.check-indexed.ensures.1))
 
 returns-3 : tie.Need-returns-3
-returns-3 c = index-given _ _ _ _ c.before.before.before.before.before.before.before.before.before.check-indexed.ensures.0 c.before.before.before.before.before.before.enum_told.given.1 c.before.before.before.before.before.if1.false (c.before.before.index-legal.ensures _ _ (tree_there _ _ _ c.before.before.before.before.before.before.before.before.before.check-indexed.ensures.0 c.before.before.before.before.before.before.enum_told.given.1 _ (λ i. omega (arith, c.before.before.before.before.before.before.before.before.before.before.before.before.shared-slice-known2.given i)) c.before.before.before.before.before.before.before.before.before.check-indexed.ensures.1))
+returns-3 c = index_given _ _ _ _ c.before.before.before.before.before.before.before.before.before.check-indexed.ensures.0 c.before.before.before.before.before.before.enum_told.given.1 c.before.before.before.before.before.if1.false (c.before.before.index-legal.ensures _ _ (tree_there _ _ _ c.before.before.before.before.before.before.before.before.before.check-indexed.ensures.0 c.before.before.before.before.before.before.enum_told.given.1 _ (λ i. omega (arith, c.before.before.before.before.before.before.before.before.before.before.before.before.shared-slice-known2.given i)) c.before.before.before.before.before.before.before.before.before.check-indexed.ensures.1))
 
 pub index-spec : {M : Type 1} → statement M
 index-spec =

@@ -1,7 +1,7 @@
 use mathlib.Core.Path.{refl}
 use native.Mathlib.Omega.{arith}
 use Rattle.tree_reader.proofs.Lookup.{zeros}
-use Rattle.check_operations.proofs.Opening.{opened-language, opened_ready}
+use Rattle.check_operations.proofs.Opening.{opened_language, opened_ready}
 use Rattle.tree_locate.proofs.Answers.{located-refused, located-read}
 use borrow.Author.Rules.{rules}
 use Rattle.tree_locate.proofs.locate.locate.Statement.{statement}
@@ -19,13 +19,13 @@ returns : tie.Need-returns
 returns c = located-refused _ _ _ _ c.before.before.before.before.before.open-language.ensures.0 c.before.before.reason.given.1 c.refuse-at.ensures.0 c.refuse-at.ensures.1
 
 cast-locate-in : tie.Need-overflow-cast-locate-in
-cast-locate-in c = let o = opened-language _ _ c.before.before.before.before.open-language.ensures.0 c.before.enum_told.given.1 in omega (arith, (c.before.before.before.before.open-language.ensures.1 o.0 o.1).kind)
+cast-locate-in c = let o = opened_language _ _ c.before.before.before.before.open-language.ensures.0 c.before.enum_told.given.1 in omega (arith, (c.before.before.before.before.open-language.ensures.1 o.0 o.1).kind)
 
 locate-in-requires : tie.Need-locate-in-requires
-locate-in-requires c κs = let o = opened-language _ _ c.before.before.before.before.open-language.ensures.0 c.before.enum_told.given.1 in opened_ready _ _ _ _ (c.before.before.before.before.open-language.ensures.1 o.0 o.1) _
+locate-in-requires c κs = let o = opened_language _ _ c.before.before.before.before.open-language.ensures.0 c.before.enum_told.given.1 in opened_ready _ _ _ _ (c.before.before.before.before.open-language.ensures.1 o.0 o.1) _
 
 returns-2 : tie.Need-returns-2
-returns-2 c = let o = opened-language _ _ c.before.before.before.before.before.open-language.ensures.0 c.before.before.enum_told.given.1 in located-read _ _ _ o.0 o.1 _ (c.locate-in.ensures o.0 (c.before.before.before.before.before.open-language.ensures.1 o.0 o.1).alone.indexed)
+returns-2 c = let o = opened_language _ _ c.before.before.before.before.before.open-language.ensures.0 c.before.before.enum_told.given.1 in located-read _ _ _ o.0 o.1 _ (c.locate-in.ensures o.0 (c.before.before.before.before.before.open-language.ensures.1 o.0 o.1).alone.indexed)
 
 pub locate-spec : {M : Type 1} → statement M
 locate-spec =

@@ -11,7 +11,7 @@ use Rattle.tree_reader.proofs.Laws.{class_in}
 use Rattle.check_operations.proofs.Reading.{at_name, at_place}
 use Rattle.tree_locate.specs.Faults.{stop_all, stop}
 use Rattle.tree_locate.specs.Inner.Places.{place_of}
-use Rattle.tree_locate.proofs.Walks.{tree_token, tree_deep, tree-unknown, tree-row, tree_kinds, row_done, row_next, row-stopped, row_inside, past_in}
+use Rattle.tree_locate.proofs.Walks.{tree_token, tree_deep, tree_unknown, tree_row, tree_kinds, row_done, row_next, row_stopped, row_inside, past_in}
 use borrow.Fn.Kinds.{In}
 use borrow.Fn.PlainCycle.{Measures, is, falls, and}
 use Rattle.tree_locate.proofs.walk.walk_row.Reads as walk-row
@@ -84,7 +84,7 @@ walk-row-returns :
     walk-row.Post
     walk-row-Inv-loop
     walk-row-μ-loop
-walk-row-returns t c = ((λ l z. row-stopped l c.before.before.before.before.before.before.before.before.before.args.levels c.before.before.before.before.before.before.before.before.before.args.language.now c.before.before.before.before.before.before.before.before.before.args.tree.now c.before.before.before.before.before.before.before.before.before.args.last c.before.before.before.before.before.loop.q c.before.before.before.before.before.loop.to c.before.before.before.before.loop-test.true (row_inside c.before.before.before.before.before.before.before.before.before.args.language.now c.before.before.before.before.before.loop.q c.before.before.before.before.before.before.before.before.before.args.last c.before.before.before.before.before.loop.invariant.1 c.before.before.before.before.loop-test.true) c.enum_told.given.1 (c.before.before.walk-tree.ensures.0 l z) ∙ ap (place_of c.before.before.before.before.before.before.before.before.before.args.tree.now) (c.before.before.before.before.before.loop.invariant.2 l z)), c.before.before.walk-tree.ensures.1)
+walk-row-returns t c = ((λ l z. row_stopped l c.before.before.before.before.before.before.before.before.before.args.levels c.before.before.before.before.before.before.before.before.before.args.language.now c.before.before.before.before.before.before.before.before.before.args.tree.now c.before.before.before.before.before.before.before.before.before.args.last c.before.before.before.before.before.loop.q c.before.before.before.before.before.loop.to c.before.before.before.before.loop-test.true (row_inside c.before.before.before.before.before.before.before.before.before.args.language.now c.before.before.before.before.before.loop.q c.before.before.before.before.before.before.before.before.before.args.last c.before.before.before.before.before.loop.invariant.1 c.before.before.before.before.loop-test.true) c.enum_told.given.1 (c.before.before.walk-tree.ensures.0 l z) ∙ ap (place_of c.before.before.before.before.before.before.before.before.before.args.tree.now) (c.before.before.before.before.before.loop.invariant.2 l z)), c.before.before.walk-tree.ensures.1)
 
 walk-row-add-q :
     (t : ℕ) →
@@ -138,7 +138,7 @@ walk-tree-production-place-requires : (t : ℕ) → walk-tree-lts.Need-productio
 walk-tree-production-place-requires t c κs = (c.before.before.before.before.before.before.before.requires.1.sound.long, c.before.before.before.before.before.before.before.requires.1.kind, c.before.before.before.before.before.before.before.requires.1.inside)
 
 walk-tree-returns-3 : (t : ℕ) → walk-tree-lts.Need-returns-3 (walk-tree-calls t) (walk-tree-at t) walk-tree.Post
-walk-tree-returns-3 t c = ((λ l z. tree-unknown c.before.before.before.before.before.before.before.before.before.args.language.now c.before.before.before.before.before.before.before.before.before.args.index.now l z c.before.before.before.before.before.before.before.before.before.args.kind c.before.before.before.before.before.before.before.before.before.requires.1.kind c.before.before.before.before.before.before.before.before.before.args.tree.now c.before.before.before.before.before.before.before.before.before.args.at c.before.before.before.before.before.before.before.before.before.args.levels c.before.before.before.before.before.to-usize.ensures.0 c.before.before.before.before.place_at.ensures c.before.before.before.if1.false c.before.before.before.before.before.before.before.before.before.requires.1.inside (λ i. omega (arith, c.before.before.before.before.before.before.shared-slice-known3.given i)) c.before.production-place.ensures c.before.before.if2.false c.if3.true), tt)
+walk-tree-returns-3 t c = ((λ l z. tree_unknown c.before.before.before.before.before.before.before.before.before.args.language.now c.before.before.before.before.before.before.before.before.before.args.index.now l z c.before.before.before.before.before.before.before.before.before.args.kind c.before.before.before.before.before.before.before.before.before.requires.1.kind c.before.before.before.before.before.before.before.before.before.args.tree.now c.before.before.before.before.before.before.before.before.before.args.at c.before.before.before.before.before.before.before.before.before.args.levels c.before.before.before.before.before.to-usize.ensures.0 c.before.before.before.before.place_at.ensures c.before.before.before.if1.false c.before.before.before.before.before.before.before.before.before.requires.1.inside (λ i. omega (arith, c.before.before.before.before.before.before.shared-slice-known3.given i)) c.before.production-place.ensures c.before.before.if2.false c.if3.true), tt)
 
 walk-tree-first-operand-requires : (t : ℕ) → walk-tree-lts.Need-first-operand-requires (walk-tree-calls t) (walk-tree-at t) walk-tree.Post
 walk-tree-first-operand-requires t c κs = let w = at_place _ _ _ _ _ c.before.before.before.before.before.before.before.before.before.requires.1.kind (λ i. omega (arith, c.before.before.before.before.before.before.shared-slice-known3.given i)) c.before.before.before.before.before.to-usize.ensures.0 c.before.before.before.before.place_at.ensures c.before.production-place.ensures c.if3.false c.before.before.before.before.before.before.before.before.before.requires.1.sound in omega (arith, w.0, w.1)
@@ -153,7 +153,7 @@ walk-tree-walk-row-requires : (t : ℕ) → walk-tree-lts.Need-walk-row-requires
 walk-tree-walk-row-requires t c κs = let w = at_name c.before.before.before.before.before.before.before.before.before.before.before.args.language.now _ _ _ _ c.before.before.before.before.before.before.before.before.before.before.before.requires.1.kind (λ i. omega (arith, c.before.before.before.before.before.before.before.before.shared-slice-known3.given i)) c.before.before.before.before.before.before.before.to-usize.ensures.0 c.before.before.before.before.before.before.place_at.ensures c.before.before.before.production-place.ensures c.before.before.if3.false in (omega (arith, c.before.before.before.before.before.before.before.before.before.before.before.requires.0, c.before.before.before.before.if2.false), (c.before.before.before.before.before.before.before.before.before.before.before.requires.1.sound, tree_kinds _ _ _ _ _ c.before.before.before.before.before.before.before.before.before.before.before.requires.1.kind (λ i. omega (arith, c.before.before.before.before.before.before.before.before.shared-slice-known3.given i)) c.before.before.before.before.before.before.before.to-usize.ensures.0 c.before.before.before.before.before.before.place_at.ensures c.before.before.before.production-place.ensures c.before.before.if3.false c.before.before.before.before.before.before.before.before.before.before.before.requires.1.sound c.before.first-operand.ensures c.last-operand.ensures, omega (arith, w)))
 
 walk-tree-returns-4 : (t : ℕ) → walk-tree-lts.Need-returns-4 (walk-tree-calls t) (walk-tree-at t) walk-tree.Post
-walk-tree-returns-4 t c = ((λ l z. tree-row c.before.before.before.before.before.before.before.before.before.before.before.before.args.language.now c.before.before.before.before.before.before.before.before.before.before.before.before.args.index.now l z c.before.before.before.before.before.before.before.before.before.before.before.before.args.kind c.before.before.before.before.before.before.before.before.before.before.before.before.requires.1.kind c.before.before.before.before.before.before.before.before.before.before.before.before.args.tree.now c.before.before.before.before.before.before.before.before.before.before.before.before.args.at c.before.before.before.before.before.before.before.before.before.before.before.before.args.levels c.before.before.before.before.before.before.before.before.to-usize.ensures.0 c.before.before.before.before.before.before.before.place_at.ensures c.before.before.before.before.before.before.if1.false c.before.before.before.before.before.before.before.before.before.before.before.before.requires.1.inside (λ i. omega (arith, c.before.before.before.before.before.before.before.before.before.shared-slice-known3.given i)) c.before.before.before.before.production-place.ensures c.before.before.before.before.before.if2.false c.before.before.before.if3.false c.before.before.first-operand.ensures c.before.last-operand.ensures c.walk-row.result (c.walk-row.ensures.0 l z)), c.walk-row.ensures.1)
+walk-tree-returns-4 t c = ((λ l z. tree_row c.before.before.before.before.before.before.before.before.before.before.before.before.args.language.now c.before.before.before.before.before.before.before.before.before.before.before.before.args.index.now l z c.before.before.before.before.before.before.before.before.before.before.before.before.args.kind c.before.before.before.before.before.before.before.before.before.before.before.before.requires.1.kind c.before.before.before.before.before.before.before.before.before.before.before.before.args.tree.now c.before.before.before.before.before.before.before.before.before.before.before.before.args.at c.before.before.before.before.before.before.before.before.before.before.before.before.args.levels c.before.before.before.before.before.before.before.before.to-usize.ensures.0 c.before.before.before.before.before.before.before.place_at.ensures c.before.before.before.before.before.before.if1.false c.before.before.before.before.before.before.before.before.before.before.before.before.requires.1.inside (λ i. omega (arith, c.before.before.before.before.before.before.before.before.before.shared-slice-known3.given i)) c.before.before.before.before.production-place.ensures c.before.before.before.before.before.if2.false c.before.before.before.if3.false c.before.before.first-operand.ensures c.before.last-operand.ensures c.walk-row.result (c.walk-row.ensures.0 l z)), c.walk-row.ensures.1)
 
 pub +walk-row-walk-tree-spec : {M : Type 1} → statement M
 +walk-row-walk-tree-spec = close μ-walk-row μ-walk-tree (λ t. walk-row-lts.spec (walk-row-calls t)

@@ -1,4 +1,4 @@
-use Rattle.tree_locate.proofs.Walks.{token_short, token_past, token-stopped, deep_end, broken_end}
+use Rattle.tree_locate.proofs.Walks.{token_short, token_past, token_stopped, deep_end, broken_end}
 use borrow.Author.Rules.{rules}
 use Rattle.tree_locate.proofs.walk.walk_token.Statement.{statement}
 use Rattle.tree_locate.proofs.walk.walk_token.Tie as tie
@@ -16,10 +16,10 @@ returns-2 : tie.Need-returns-2
 returns-2 c = token_past _ _ _ _ c.before.before.before.before.before.before.before.requires.0 c.before.before.before.before.before.before.before.requires.1 c.before.before.before.before.if1.false c.before.before.before.token.ensures.0 c.before.e.given.1
 
 returns-3 : tie.Need-returns-3
-returns-3 c = (token-stopped _ _ _ _ c.before.before.before.before.before.before.requires.0 c.before.before.before.before.before.before.requires.1 c.before.before.before.if1.false c.before.before.token.ensures.0 (λ e h. deep_end e c.enum_told.given.1 h), tt)
+returns-3 c = (token_stopped _ _ _ _ c.before.before.before.before.before.before.requires.0 c.before.before.before.before.before.before.requires.1 c.before.before.before.if1.false c.before.before.token.ensures.0 (λ e h. deep_end e c.enum_told.given.1 h), tt)
 
 returns-4 : tie.Need-returns-4
-returns-4 c = (token-stopped _ _ _ _ c.before.before.before.before.before.before.requires.0 c.before.before.before.before.before.before.requires.1 c.before.before.before.if1.false c.before.before.token.ensures.0 (λ e h. broken_end e c.enum-told2.given.1 h), tt)
+returns-4 c = (token_stopped _ _ _ _ c.before.before.before.before.before.before.requires.0 c.before.before.before.before.before.before.requires.1 c.before.before.before.if1.false c.before.before.token.ensures.0 (λ e h. broken_end e c.enum-told2.given.1 h), tt)
 
 pub walk-token-spec : {M : Type 1} → statement M
 walk-token-spec =

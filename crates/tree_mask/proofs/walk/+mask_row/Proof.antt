@@ -7,7 +7,7 @@ use borrow.Author.Tests.{not-true, not-false}
 use Rattle.check_operations.proofs.Reading.{at_name, at_place}
 use Rattle.tree_mask.specs.Inner.Rows.{Walkable, to_go}
 use Rattle.tree_mask.specs.Inner.Masking.{Goes}
-use Rattle.tree_mask.proofs.Masks.{at_token, not-cut, not_deep}
+use Rattle.tree_mask.proofs.Masks.{at_token, not_cut, not_deep}
 use Rattle.tree_mask.proofs.Rows.{kind_in, row_short, inner_walk, inner_levels}
 use Rattle.tree_mask.proofs.Walks.{row_put, step_again, step_done, advance, ended, ended_stop, entered, inner_put}
 use borrow.Fn.Kinds.{In}
@@ -67,7 +67,7 @@ mask-row-same-length : (t : ℕ) → mask-row-lts.Need-same-length (mask-row-cal
 mask-row-same-length t c = c.before.before.before.before.before.before.before.before.before.before.before.loop.invariant.2
 
 mask-row-returns : (t : ℕ) → mask-row-lts.Need-returns (mask-row-calls t) (mask-row-at t) mask-row.Post mask-row-Inv-loop mask-row-μ-loop
-mask-row-returns t c = step_done c.before.before.before.before.before.before.before.before.before.before.before.before.before.before.before.args.language.now c.before.before.before.before.before.before.before.before.before.before.before.before.before.before.before.args.index.now c.before.before.before.before.before.before.before.before.before.before.before.before.before.before.before.args.tree.now c.before.before.before.before.before.before.before.before.before.before.before.before.before.before.before.args.seen c.before.before.before.before.before.before.before.before.before.before.before.before.before.before.before.args.row c.before.before.before.before.before.before.before.before.before.before.before.before.before.before.before.args.out.now c.before.before.before.before.before.before.before.before.before.before.before.loop.next c.before.before.before.before.before.before.before.before.before.before.before.loop.out c.before.before.before.before.before.before.before.before.before.before.before.loop.invariant.3 _ _ (ended c.before.before.before.before.before.before.before.before.before.before.before.before.before.before.before.args.language.now c.before.before.before.before.before.before.before.before.before.before.before.before.before.before.before.args.index.now c.before.before.before.before.before.before.before.before.before.before.before.before.before.before.before.args.tree.now c.before.before.before.before.before.before.before.before.before.before.before.before.before.before.before.args.seen c.before.before.before.before.before.before.before.before.before.before.before.loop.next c.before.before.before.before.before.before.before.before.before.before.before.loop.invariant.0 c.before.before.before.before.before.before.before.before.before.before.before.loop.out c.before.before.before.before.before.before.before.before.before.if1.true refl c.End-row.ensures c.before.before.before.before.before.before.before.before.before.before.before.loop.out (not-cut c.before.before.before.before.before.before.before.before.before.before.before.before.before.before.before.args.language.now c.before.before.before.before.before.before.before.before.before.before.before.before.before.before.before.args.index.now c.before.before.before.before.before.before.before.before.before.before.before.before.before.before.before.args.tree.now c.before.before.before.before.before.before.before.before.before.before.before.before.before.before.before.args.seen _ c.before.before.before.before.before.before.before.before.before.before.before.loop.next.tree c.before.before.before.before.before.before.before.before.before.before.before.loop.out c.before.before.before.before.before.before.before.before.before.before.before.loop.next.text c.before.before.before.before.before.before.before.before.before.before.before.loop.next.levels (kind_in c.before.before.before.before.before.before.before.before.before.before.before.before.before.before.before.args.language.now c.before.before.before.before.before.before.before.before.before.before.before.before.before.before.before.args.index.now c.before.before.before.before.before.before.before.before.before.before.before.before.before.before.before.args.tree.now c.before.before.before.before.before.before.before.before.before.before.before.loop.next c.before.before.before.before.before.before.before.before.before.before.before.loop.invariant.0 c.before.before.before.before.before.before.before.before.before.if1.true).1 (λ i. omega (arith, c.before.before.before.before.before.before.before.before.before.before.before.before.before.shared-slice-known2.given i)) c.before.before.before.before.before.before.to-usize.ensures.0 c.before.before.before.before.before.place_at.ensures c.before.before.before.production-place.ensures c.before.before.if2.true c.before.if3.true)) (ended_stop c.before.before.before.before.before.before.before.before.before.before.before.before.before.before.before.args.language.now c.before.before.before.before.before.before.before.before.before.before.before.before.before.before.before.args.index.now c.before.before.before.before.before.before.before.before.before.before.before.before.before.before.before.args.tree.now c.before.before.before.before.before.before.before.before.before.before.before.before.before.before.before.args.seen c.before.before.before.before.before.before.before.before.before.before.before.loop.next c.before.before.before.before.before.before.before.before.before.before.before.loop.invariant.0 c.before.before.before.before.before.before.before.before.before.before.before.loop.out c.before.before.before.before.before.before.before.before.before.if1.true refl c.End-row.ensures)
+mask-row-returns t c = step_done c.before.before.before.before.before.before.before.before.before.before.before.before.before.before.before.args.language.now c.before.before.before.before.before.before.before.before.before.before.before.before.before.before.before.args.index.now c.before.before.before.before.before.before.before.before.before.before.before.before.before.before.before.args.tree.now c.before.before.before.before.before.before.before.before.before.before.before.before.before.before.before.args.seen c.before.before.before.before.before.before.before.before.before.before.before.before.before.before.before.args.row c.before.before.before.before.before.before.before.before.before.before.before.before.before.before.before.args.out.now c.before.before.before.before.before.before.before.before.before.before.before.loop.next c.before.before.before.before.before.before.before.before.before.before.before.loop.out c.before.before.before.before.before.before.before.before.before.before.before.loop.invariant.3 _ _ (ended c.before.before.before.before.before.before.before.before.before.before.before.before.before.before.before.args.language.now c.before.before.before.before.before.before.before.before.before.before.before.before.before.before.before.args.index.now c.before.before.before.before.before.before.before.before.before.before.before.before.before.before.before.args.tree.now c.before.before.before.before.before.before.before.before.before.before.before.before.before.before.before.args.seen c.before.before.before.before.before.before.before.before.before.before.before.loop.next c.before.before.before.before.before.before.before.before.before.before.before.loop.invariant.0 c.before.before.before.before.before.before.before.before.before.before.before.loop.out c.before.before.before.before.before.before.before.before.before.if1.true refl c.End-row.ensures c.before.before.before.before.before.before.before.before.before.before.before.loop.out (not_cut c.before.before.before.before.before.before.before.before.before.before.before.before.before.before.before.args.language.now c.before.before.before.before.before.before.before.before.before.before.before.before.before.before.before.args.index.now c.before.before.before.before.before.before.before.before.before.before.before.before.before.before.before.args.tree.now c.before.before.before.before.before.before.before.before.before.before.before.before.before.before.before.args.seen _ c.before.before.before.before.before.before.before.before.before.before.before.loop.next.tree c.before.before.before.before.before.before.before.before.before.before.before.loop.out c.before.before.before.before.before.before.before.before.before.before.before.loop.next.text c.before.before.before.before.before.before.before.before.before.before.before.loop.next.levels (kind_in c.before.before.before.before.before.before.before.before.before.before.before.before.before.before.before.args.language.now c.before.before.before.before.before.before.before.before.before.before.before.before.before.before.before.args.index.now c.before.before.before.before.before.before.before.before.before.before.before.before.before.before.before.args.tree.now c.before.before.before.before.before.before.before.before.before.before.before.loop.next c.before.before.before.before.before.before.before.before.before.before.before.loop.invariant.0 c.before.before.before.before.before.before.before.before.before.if1.true).1 (λ i. omega (arith, c.before.before.before.before.before.before.before.before.before.before.before.before.before.shared-slice-known2.given i)) c.before.before.before.before.before.before.to-usize.ensures.0 c.before.before.before.before.before.place_at.ensures c.before.before.before.production-place.ensures c.before.before.if2.true c.before.if3.true)) (ended_stop c.before.before.before.before.before.before.before.before.before.before.before.before.before.before.before.args.language.now c.before.before.before.before.before.before.before.before.before.before.before.before.before.before.before.args.index.now c.before.before.before.before.before.before.before.before.before.before.before.before.before.before.before.args.tree.now c.before.before.before.before.before.before.before.before.before.before.before.before.before.before.before.args.seen c.before.before.before.before.before.before.before.before.before.before.before.loop.next c.before.before.before.before.before.before.before.before.before.before.before.loop.invariant.0 c.before.before.before.before.before.before.before.before.before.before.before.loop.out c.before.before.before.before.before.before.before.before.before.if1.true refl c.End-row.ensures)
 
 mask-row-in-set-requires : (t : ℕ) → mask-row-lts.Need-in-set-requires (mask-row-calls t) (mask-row-at t) mask-row.Post mask-row-Inv-loop mask-row-μ-loop
 mask-row-in-set-requires t c κs = (kind_in c.before.before.before.before.before.before.before.before.before.before.before.before.before.before.args.language.now c.before.before.before.before.before.before.before.before.before.before.before.before.before.before.args.index.now c.before.before.before.before.before.before.before.before.before.before.before.before.before.before.args.tree.now c.before.before.before.before.before.before.before.before.before.before.loop.next c.before.before.before.before.before.before.before.before.before.before.loop.invariant.0 c.before.before.before.before.before.before.before.before.if1.true).1

@@ -3,7 +3,7 @@ use native.Mathlib.Omega.{arith}
 use borrow.Author.Tests.{not-true, not-false}
 use Rattle.check_operations.proofs.Reading.{at_name, at_place}
 use Rattle.tree_mask.specs.Inner.Rows.{whole_row, inner_row}
-use Rattle.tree_mask.proofs.Masks.{at_token, not-cut, whole_hidden, whole_not, whole_is}
+use Rattle.tree_mask.proofs.Masks.{at_token, not_cut, whole_hidden, whole_not, whole_is}
 use Rattle.tree_mask.proofs.Rows.{inner_walk}
 use Rattle.tree_mask.proofs.Walks.{inner_put}
 use borrow.Author.Rules.{rules}
@@ -25,7 +25,7 @@ returns : tie.Need-returns
 returns c = whole_hidden c.before.before.before.before.before.before.before.before.before.args.language.now c.before.before.before.before.before.before.before.before.before.args.index.now c.before.before.before.before.before.before.before.before.before.args.tree.now c.before.before.before.before.before.before.before.before.before.args.seen c.before.before.before.before.before.before.before.before.before.args.kind c.before.before.before.before.before.before.before.before.before.args.out.now (sym c.before.before.before.before.before.in-set.ensures ∙ not-true _ c.before.before.before.before.if1.true) c.before.before.put.ensures
 
 returns-2 : tie.Need-returns-2
-returns-2 c = whole_not c.before.before.before.before.before.before.before.before.before.before.before.before.args.language.now c.before.before.before.before.before.before.before.before.before.before.before.before.args.index.now c.before.before.before.before.before.before.before.before.before.before.before.before.args.tree.now c.before.before.before.before.before.before.before.before.before.before.before.before.args.seen c.before.before.before.before.before.before.before.before.before.before.before.before.args.kind c.before.before.before.before.before.before.before.before.before.before.before.before.args.out.now (not-cut c.before.before.before.before.before.before.before.before.before.before.before.before.args.language.now c.before.before.before.before.before.before.before.before.before.before.before.before.args.index.now c.before.before.before.before.before.before.before.before.before.before.before.before.args.tree.now c.before.before.before.before.before.before.before.before.before.before.before.before.args.seen c.before.before.before.before.before.before.before.before.before.before.before.before.args.kind 0 c.before.before.before.before.before.before.before.before.before.before.before.before.args.out.now 0 64 c.before.before.before.before.before.before.before.before.before.before.before.before.requires.kind (λ i. omega (arith, c.before.before.before.before.before.before.before.before.before.before.shared-slice-known2.given i)) c.before.before.before.before.before.to-usize.ensures.0 c.before.before.before.before.place_at.ensures c.before.before.production-place.ensures c.before.if2.true (omega (arith, c.if3.true)))
+returns-2 c = whole_not c.before.before.before.before.before.before.before.before.before.before.before.before.args.language.now c.before.before.before.before.before.before.before.before.before.before.before.before.args.index.now c.before.before.before.before.before.before.before.before.before.before.before.before.args.tree.now c.before.before.before.before.before.before.before.before.before.before.before.before.args.seen c.before.before.before.before.before.before.before.before.before.before.before.before.args.kind c.before.before.before.before.before.before.before.before.before.before.before.before.args.out.now (not_cut c.before.before.before.before.before.before.before.before.before.before.before.before.args.language.now c.before.before.before.before.before.before.before.before.before.before.before.before.args.index.now c.before.before.before.before.before.before.before.before.before.before.before.before.args.tree.now c.before.before.before.before.before.before.before.before.before.before.before.before.args.seen c.before.before.before.before.before.before.before.before.before.before.before.before.args.kind 0 c.before.before.before.before.before.before.before.before.before.before.before.before.args.out.now 0 64 c.before.before.before.before.before.before.before.before.before.before.before.before.requires.kind (λ i. omega (arith, c.before.before.before.before.before.before.before.before.before.before.shared-slice-known2.given i)) c.before.before.before.before.before.to-usize.ensures.0 c.before.before.before.before.place_at.ensures c.before.before.production-place.ensures c.before.if2.true (omega (arith, c.if3.true)))
 
 returns-3 : tie.Need-returns-3
 returns-3 c = whole_is c.before.before.before.before.before.before.before.before.before.before.before.before.before.before.before.before.args.language.now c.before.before.before.before.before.before.before.before.before.before.before.before.before.before.before.before.args.index.now c.before.before.before.before.before.before.before.before.before.before.before.before.before.before.before.before.args.tree.now c.before.before.before.before.before.before.before.before.before.before.before.before.before.before.before.before.args.seen c.before.before.before.before.before.before.before.before.before.before.before.before.before.before.before.before.args.kind c.before.before.before.before.before.before.before.before.before.before.before.before.before.before.before.before.args.out.now (at_token c.before.before.before.before.before.before.before.before.before.before.before.before.before.before.before.before.args.language.now c.before.before.before.before.before.before.before.before.before.before.before.before.before.before.before.before.args.index.now c.before.before.before.before.before.before.before.before.before.before.before.before.before.before.before.before.args.tree.now c.before.before.before.before.before.before.before.before.before.before.before.before.before.before.before.before.args.seen c.before.before.before.before.before.before.before.before.before.before.before.before.before.before.before.before.args.kind 0 c.before.before.before.before.before.before.before.before.before.before.before.before.before.before.before.before.args.out.now 0 64 c.before.before.before.before.before.before.before.before.before.before.before.before.before.before.before.before.requires.kind (λ i. omega (arith, c.before.before.before.before.before.before.before.before.before.before.before.before.before.before.shared-slice-known2.given i)) c.before.before.before.before.before.before.before.before.before.to-usize.ensures.0 c.before.before.before.before.before.before.before.before.place_at.ensures c.before.before.before.before.before.before.production-place.ensures c.before.before.before.before.before.if2.true (sym (sym c.before.before.before.before.before.before.before.before.before.before.before.before.in-set.ensures ∙ not-false _ c.before.before.before.before.before.before.before.before.before.before.before.if1.false)) c.before.before.put-token.ensures.0)

@@ -1,6 +1,6 @@
 use native.Mathlib.Omega.{arith}
 use borrow.Author.Tests.{not-true, not-false}
-use Rattle.tree_mask.proofs.Masks.{token_hidden, token_short, token-put}
+use Rattle.tree_mask.proofs.Masks.{token_hidden, token_short, token_put}
 use borrow.Author.Rules.{rules}
 use Rattle.tree_mask.proofs.walk.put_token.Statement.{statement}
 use Rattle.tree_mask.proofs.walk.put_token.Tie as tie
@@ -15,7 +15,7 @@ returns-2 : tie.Need-returns-2
 returns-2 c = (token_short c.before.before.before.before.args.seen c.before.before.before.before.args.tree.now c.before.before.before.before.args.at c.before.before.before.before.args.out.now c.before.before.before.before.args.n c.before.before.before.before.requires.0 (not-false _ c.before.if1.false) c.if2.true, omega arith)
 
 returns-3 : tie.Need-returns-3
-returns-3 c = (token-put c.before.before.before.before.before.before.args.seen c.before.before.before.before.before.before.args.tree.now c.before.before.before.before.before.before.args.at c.before.before.before.before.before.before.args.out.now c.before.before.before.before.before.before.args.n c.before.before.before.before.before.before.requires.0 (not-false _ c.before.before.before.if1.false) c.before.before.if2.false, omega arith)
+returns-3 c = (token_put c.before.before.before.before.before.before.args.seen c.before.before.before.before.before.before.args.tree.now c.before.before.before.before.before.before.args.at c.before.before.before.before.before.before.args.out.now c.before.before.before.before.before.before.args.n c.before.before.before.before.before.before.requires.0 (not-false _ c.before.before.before.if1.false) c.before.before.if2.false, omega arith)
 
 pub put-token-spec : {M : Type 1} → statement M
 put-token-spec =

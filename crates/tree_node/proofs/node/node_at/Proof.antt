@@ -1,6 +1,6 @@
 use mathlib.Core.Path.{refl}
 use native.Mathlib.Omega.{arith}
-use Rattle.tree_node.proofs.Shapes.{token-shown, name_inside, few, production-shown}
+use Rattle.tree_node.proofs.Shapes.{token_shown, name_inside, few, production_shown}
 use borrow.Author.Rules.{rules}
 use Rattle.tree_node.proofs.node.node_at.Statement.{statement}
 use Rattle.tree_node.proofs.node.node_at.Tie as tie
@@ -12,7 +12,7 @@ use Rattle.tree_node.proofs.node.kinds_between.Reads as kinds-between-reads
 use Rattle.tree_reader.proofs.node.place_at.Reads as place-at-reads
 
 returns : tie.Need-returns
-returns c = λ l t h. token-shown _ _ _ _ _ l t h c.before.before.to-usize.ensures.0 c.before.place_at.ensures c.if1.true
+returns c = λ l t h. token_shown _ _ _ _ _ l t h c.before.before.to-usize.ensures.0 c.before.place_at.ensures c.if1.true
 
 shared-slice-read-t16 : tie.Need-shared-slice-read-t16
 shared-slice-read-t16 c = name_inside _ _ _ _ _ c.before.before.before.before.before.before.before.before.before.requires.0 c.before.before.before.before.before.before.before.before.before.requires.1 c.before.before.before.before.before.before.before.before.before.requires.2 c.before.before.before.before.before.to-usize.ensures.0 c.before.before.before.before.place_at.ensures c.before.before.before.if1.false
@@ -24,7 +24,7 @@ cast-t18 : tie.Need-overflow-cast-t18
 cast-t18 c = omega (arith, few _ _ _ _ _ c.before.before.before.before.before.before.before.before.before.requires.0 c.before.before.before.before.before.before.before.before.before.requires.1 c.before.before.before.before.before.before.before.before.before.requires.2 c.before.before.before.before.before.to-usize.ensures.0 c.before.before.before.before.place_at.ensures c.before.before.before.if1.false _ _ _ (c.before.before.operands-at.ensures c.before.before.before.before.before.before.before.before.before.requires.0 c.before.before.before.before.before.before.before.before.before.requires.1 c.before.before.before.before.before.before.before.before.before.requires.2), c.before.kinds-between.ensures.0)
 
 returns-2 : tie.Need-returns-2
-returns-2 c = λ l t h. production-shown _ _ _ _ _ l t h c.before.before.before.before.before.to-usize.ensures.0 c.before.before.before.before.place_at.ensures c.before.before.before.if1.false _ _ _ (c.before.before.operands-at.ensures l t h) _ _ refl c.before.kinds-between.ensures.0
+returns-2 c = λ l t h. production_shown _ _ _ _ _ l t h c.before.before.before.before.before.to-usize.ensures.0 c.before.before.before.before.place_at.ensures c.before.before.before.if1.false _ _ _ (c.before.before.operands-at.ensures l t h) _ _ refl c.before.kinds-between.ensures.0
 
 pub node_at_spec : {M : Type 1} → statement M
 node_at_spec =

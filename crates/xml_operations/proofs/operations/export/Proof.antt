@@ -2,7 +2,7 @@ use mathlib.Core.Path.{refl}
 use native.Mathlib.Omega.{arith}
 use borrow.Author.Rules.{rules}
 use Rattle.tree_reader.proofs.Lookup.{zeros}
-use Rattle.check_operations.proofs.Opening.{opened-language, opened-not, opened_ready}
+use Rattle.check_operations.proofs.Opening.{opened_language, opened_not, opened_ready}
 use Rattle.xml_operations.proofs.Answers.{export-refused, export-done}
 use Rattle.xml_operations.proofs.operations.export.Statement.{statement}
 use Rattle.xml_operations.proofs.operations.export.Tie as tie
@@ -16,16 +16,16 @@ open-language-requires : tie.Need-open-language-requires
 open-language-requires c κs = (refl, zeros 8224)
 
 returns : tie.Need-returns
-returns c = export-refused _ _ _ _ (opened-not _ _ c.before.before.before.before.before.open-language.ensures.0 c.before.before.outcome.given.1) c.refuse.ensures
+returns c = export-refused _ _ _ _ (opened_not _ _ c.before.before.before.before.before.open-language.ensures.0 c.before.before.outcome.given.1) c.refuse.ensures
 
 cast-export-tree : tie.Need-overflow-cast-export-tree
-cast-export-tree c = let o = (opened-language _ _ c.before.before.before.before.open-language.ensures.0 c.before.enum_told.given.1) in omega (arith, (c.before.before.before.before.open-language.ensures.1 o.0 o.1).kind)
+cast-export-tree c = let o = (opened_language _ _ c.before.before.before.before.open-language.ensures.0 c.before.enum_told.given.1) in omega (arith, (c.before.before.before.before.open-language.ensures.1 o.0 o.1).kind)
 
 export-tree-requires : tie.Need-export-tree-requires
-export-tree-requires c κs = let o = (opened-language _ _ c.before.before.before.before.before.open-language.ensures.0 c.before.before.enum_told.given.1) in (opened_ready _ _ _ _ (c.before.before.before.before.before.open-language.ensures.1 o.0 o.1) _, (o.0, (c.before.before.before.before.before.open-language.ensures.1 o.0 o.1).alone.indexed))
+export-tree-requires c κs = let o = (opened_language _ _ c.before.before.before.before.before.open-language.ensures.0 c.before.before.enum_told.given.1) in (opened_ready _ _ _ _ (c.before.before.before.before.before.open-language.ensures.1 o.0 o.1) _, (o.0, (c.before.before.before.before.before.open-language.ensures.1 o.0 o.1).alone.indexed))
 
 returns-2 : tie.Need-returns-2
-returns-2 c = let o = (opened-language _ _ c.before.before.before.before.before.before.before.before.open-language.ensures.0 c.before.before.before.before.before.enum_told.given.1) in export-done _ _ _ _ o.0 o.1 _ _ (c.before.before.before.before.before.before.before.before.open-language.ensures.1 o.0 o.1).alone.indexed c.before.before.export-tree.ensures
+returns-2 c = let o = (opened_language _ _ c.before.before.before.before.before.before.before.before.open-language.ensures.0 c.before.before.before.before.before.enum_told.given.1) in export-done _ _ _ _ o.0 o.1 _ _ (c.before.before.before.before.before.before.before.before.open-language.ensures.1 o.0 o.1).alone.indexed c.before.before.export-tree.ensures
 
 pub export-spec : {M : Type 1} → statement M
 export-spec =

@@ -1,6 +1,6 @@
 use native.Mathlib.Omega.{arith}
 use borrow.Author.Tests.{not-true, not-false}
-use Rattle.xml_operations.proofs.Whole.{text-left, text-long, text_done, text_deep, text_broken}
+use Rattle.xml_operations.proofs.Whole.{text_left, text_long, text_done, text_deep, text_broken}
 use borrow.Author.Rules.{rules}
 use Rattle.xml_operations.proofs.operations.import_text.Statement.{statement}
 use Rattle.xml_operations.proofs.operations.import_text.Tie as tie
@@ -16,10 +16,10 @@ text-at-requires : tie.Need-text-at-requires
 text-at-requires c κs = c.before.before.before.before.requires
 
 returns : tie.Need-returns
-returns c = text-left _ _ _ _ _ c.before.before.before.before.before.text_at.ensures.1 c.before.before.before.e.given.1 c.before.before.before.before.before.text_at.ensures.0 c.before.if1.true c.refuse.ensures
+returns c = text_left _ _ _ _ _ c.before.before.before.before.before.text_at.ensures.1 c.before.before.before.e.given.1 c.before.before.before.before.before.text_at.ensures.0 c.before.if1.true c.refuse.ensures
 
 returns-2 : tie.Need-returns-2
-returns-2 c = text-long _ _ _ _ _ c.before.before.before.before.before.before.before.text_at.ensures.1 c.before.before.before.before.before.e.given.1 c.before.before.before.before.before.before.before.text_at.ensures.0 c.before.before.before.if1.false (λ i. omega (arith, c.before.before.before.before.before.before.before.before.before.before.before.shared-slice-known.given i)) c.before.before.has_room.ensures (not-true _ c.before.if2.true) c.refuse2.ensures
+returns-2 c = text_long _ _ _ _ _ c.before.before.before.before.before.before.before.text_at.ensures.1 c.before.before.before.before.before.e.given.1 c.before.before.before.before.before.before.before.text_at.ensures.0 c.before.before.before.if1.false (λ i. omega (arith, c.before.before.before.before.before.before.before.before.before.before.before.shared-slice-known.given i)) c.before.before.has_room.ensures (not-true _ c.before.if2.true) c.refuse2.ensures
 
 returns-3 : tie.Need-returns-3
 returns-3 c = text_done _ _ _ _ _ c.before.before.before.before.before.before.before.before.before.before.before.text_at.ensures.1 c.before.before.before.before.before.before.before.before.before.e.given.1 c.before.before.before.before.before.before.before.before.before.before.before.text_at.ensures.0 c.before.before.before.before.before.before.before.if1.false (λ i. omega (arith, c.before.before.before.before.before.before.before.before.before.before.before.before.before.before.before.shared-slice-known.given i)) c.before.before.before.before.before.before.has_room.ensures (not-false _ c.before.before.before.before.before.if2.false) c.before.before.before.write-contents.ensures c.accept.ensures

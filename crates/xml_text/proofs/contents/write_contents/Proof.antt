@@ -5,7 +5,7 @@ use mathlib.Core.List.{List}
 use native.Mathlib.Omega.{arith}
 use lib.ListN.{length}
 use Rattle.xml_text.specs.Inner.Contents.{Contents, Written-to}
-use Rattle.xml_text.proofs.Takes.{taken_start, taken-done, taken-full, taken-again}
+use Rattle.xml_text.proofs.Takes.{taken_start, taken_done, taken_full, taken_again}
 use Rattle.xml_text.proofs.contents.write_contents.Statement.{statement}
 use Rattle.xml_text.proofs.contents.write_contents.Tie as tie
 use Rattle.xml_text.proofs.contents.write_contents.Reads as reads
@@ -28,19 +28,19 @@ same_length : tie.Need-same-length invariant-loop decreases-loop
 same_length c = c.before.before.before.before.take.auto.1.1.0 ∙ c.before.before.before.before.before.before.before.loop.invariant.2
 
 returns : tie.Need-returns invariant-loop decreases-loop
-returns c = λ v h g. taken-full _ _ g (c.before.before.before.before.before.before.before.loop.invariant.3 v h g) c.before.before.before.before.before.before.before.loop.invariant.2 c.before.before.before.before.take.ensures c.enum_told.given.1
+returns c = λ v h g. taken_full _ _ g (c.before.before.before.before.before.before.before.loop.invariant.3 v h g) c.before.before.before.before.before.before.before.loop.invariant.2 c.before.before.before.before.take.ensures c.enum_told.given.1
 
 loop-less : tie.Need-loop-smaller invariant-loop decreases-loop
 loop-less c = let y = c.before.before.before.before.before.take.ensures.inside _ _ c.before.e.given.1 in omega (arith, y.0, y.1)
 
 loop-again : tie.Need-loop-preserved invariant-loop decreases-loop
-loop-again c = let y = c.before.before.before.before.before.take.ensures.inside _ _ c.before.e.given.1 in let k = c.before.before.before.before.before.take.auto.1.1.0 in (y.1, omega (arith, y.2, k), k ∙ c.before.before.before.before.before.before.before.before.loop.invariant.2, λ v h g. taken-again _ _ g (c.before.before.before.before.before.before.before.before.loop.invariant.3 v h g) c.before.before.before.before.before.before.before.before.loop.invariant.2 c.before.before.before.before.before.take.ensures c.before.e.given.1)
+loop-again c = let y = c.before.before.before.before.before.take.ensures.inside _ _ c.before.e.given.1 in let k = c.before.before.before.before.before.take.auto.1.1.0 in (y.1, omega (arith, y.2, k), k ∙ c.before.before.before.before.before.before.before.before.loop.invariant.2, λ v h g. taken_again _ _ g (c.before.before.before.before.before.before.before.before.loop.invariant.3 v h g) c.before.before.before.before.before.before.before.before.loop.invariant.2 c.before.before.before.before.before.take.ensures c.before.e.given.1)
 
 same-length-2 : tie.Need-same-length-2 invariant-loop decreases-loop
 same-length-2 c = c.before.loop.invariant.2
 
 returns-2 : tie.Need-returns-2 invariant-loop decreases-loop
-returns-2 c = λ v h g. taken-done _ _ g (c.before.loop.invariant.3 v h g) c.loop-test.false
+returns-2 c = λ v h g. taken_done _ _ g (c.before.loop.invariant.3 v h g) c.loop-test.false
 
 pub write-contents-spec : {M : Type 1} → statement M
 write-contents-spec =

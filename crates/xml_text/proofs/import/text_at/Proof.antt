@@ -1,4 +1,4 @@
-use Rattle.xml_text.proofs.Rows.{Open, open_start, open_done, open_above, open-unclosed, open-back, open_in, open-short, open-kind, turn-no-token, turn-token, turn-not, turn-deep, turn-no-element, turn-past, turn-down}
+use Rattle.xml_text.proofs.Rows.{Open, open_start, open_done, open_above, open_unclosed, open_back, open_in, open_short, open_kind, turn_no_token, turn_token, turn_not, turn_deep, turn_no_element, turn_past, turn_down}
 use Rattle.tree_reader.proofs.Laws.{class_in}
 use lib.ListN.{length}
 use native.Mathlib.Omega.{arith}
@@ -50,7 +50,7 @@ closing-at-requires : tie.Need-closing-at-requires invariant-loop decreases-loop
 closing-at-requires c κs = let w = open_above _ _ _ _ c.before.before.loop.invariant c.before.if1.true c.if2.false refl in (w.wide, w.inside, c.before.before.loop.invariant.inside)
 
 returns-2 : tie.Need-returns-2 invariant-loop decreases-loop
-returns-2 c = open-unclosed _ _ _ _ c.before.before.before.before.before.loop.invariant c.before.before.before.before.if1.true c.before.before.before.if2.false refl c.before.before.Closing-at.ensures c.enum_told.given.1
+returns-2 c = open_unclosed _ _ _ _ c.before.before.before.before.before.loop.invariant c.before.before.before.before.if1.true c.before.before.before.if2.false refl c.before.before.Closing-at.ensures c.enum_told.given.1
 
 mul-q : tie.Need-overflow-mul-q invariant-loop decreases-loop
 mul-q c = omega (arith, c.before.before.before.before.before.before.loop.invariant.shallow, c.before.before.before.before.if2.false)
@@ -74,16 +74,16 @@ loop-less : tie.Need-loop-smaller invariant-loop decreases-loop
 loop-less c = let w = c.before.before.before.Closing-at.ensures.reached _ c.before.e.given.1 in omega (arith, w.past, w.inside, c.before.before.before.before.if2.false)
 
 loop-again : tie.Need-loop-preserved invariant-loop decreases-loop
-loop-again c = open-back _ _ _ _ c.before.before.before.before.before.before.loop.invariant c.before.before.before.before.before.if1.true c.before.before.before.before.if2.false refl c.before.before.before.Closing-at.ensures c.before.e.given.1
+loop-again c = open_back _ _ _ _ c.before.before.before.before.before.before.loop.invariant c.before.before.before.before.before.if1.true c.before.before.before.before.if2.false refl c.before.before.before.Closing-at.ensures c.before.e.given.1
 
 kind-at-requires : tie.Need-kind-at-requires invariant-loop decreases-loop
 kind-at-requires c κs = (open_in _ _ _ _ c.before.loop.invariant c.if1.false).0
 
 place-at-requires : tie.Need-place-at-requires invariant-loop decreases-loop
-place-at-requires c κs = let z = open-kind _ _ _ _ c.before.before.before.loop.invariant c.before.before.if1.false c.before.kind_at.ensures in omega (arith, c.before.before.before.before.before.before.before.requires.sound.long, z, c.to-usize.ensures.0)
+place-at-requires c κs = let z = open_kind _ _ _ _ c.before.before.before.loop.invariant c.before.before.if1.false c.before.kind_at.ensures in omega (arith, c.before.before.before.before.before.before.before.requires.sound.long, z, c.to-usize.ensures.0)
 
 add-q : tie.Need-overflow-add-q invariant-loop decreases-loop
-add-q c = let z = open-short _ _ _ _ c.before.before.before.before.loop.invariant c.before.before.before.if1.false c.before.before.before.before.before.before.before.before.requires.sound.short in omega (arith, z.0)
+add-q c = let z = open_short _ _ _ _ c.before.before.before.before.loop.invariant c.before.before.before.if1.false c.before.before.before.before.before.before.before.before.requires.sound.short in omega (arith, z.0)
 
 is-token-requires : tie.Need-is-token-requires invariant-loop decreases-loop
 is-token-requires c κs = c.before.before.before.before.loop.invariant.inside
@@ -92,31 +92,31 @@ sub-token-at : tie.Need-overflow-sub-token-at invariant-loop decreases-loop
 sub-token-at c = let z = c.before.is-token.ensures.some c.if3.true in omega (arith, z)
 
 token-at-requires : tie.Need-token-at-requires invariant-loop decreases-loop
-token-at-requires c κs = let z = open-kind _ _ _ _ c.before.before.before.before.before.before.loop.invariant c.before.before.before.before.before.if1.false c.before.before.before.before.kind_at.ensures in let x = c.before.is-token.ensures.some c.if3.true in let y : 0 < c.before.before.place_at.result = omega (arith, x) in (class_in _ _ c.before.before.before.before.before.before.before.before.before.before.requires.sound c.before.before.before.to-usize.ensures.0 z c.before.before.place_at.ensures y, omega (arith, z), c.before.before.before.before.before.before.loop.invariant.inside)
+token-at-requires c κs = let z = open_kind _ _ _ _ c.before.before.before.before.before.before.loop.invariant c.before.before.before.before.before.if1.false c.before.before.before.before.kind_at.ensures in let x = c.before.is-token.ensures.some c.if3.true in let y : 0 < c.before.before.place_at.result = omega (arith, x) in (class_in _ _ c.before.before.before.before.before.before.before.before.before.before.requires.sound c.before.before.before.to-usize.ensures.0 z c.before.before.place_at.ensures y, omega (arith, z), c.before.before.before.before.before.before.loop.invariant.inside)
 
 returns-3 : tie.Need-returns-3 invariant-loop decreases-loop
-returns-3 c = turn-no-token _ _ _ _ c.before.before.before.before.before.before.before.before.before.loop.invariant c.before.before.before.before.before.before.before.before.if1.false c.before.before.before.before.before.before.before.kind_at.ensures (λ i. omega (arith, c.before.before.before.before.before.before.before.before.before.before.before.before.shared-slice-known.given i)) c.before.before.before.before.before.before.to-usize.ensures.0 c.before.before.before.before.before.place_at.ensures (c.before.before.before.before.is-token.ensures.some c.before.before.before.if3.true) c.before.before.token-at.ensures c.enum-told2.given.1
+returns-3 c = turn_no_token _ _ _ _ c.before.before.before.before.before.before.before.before.before.loop.invariant c.before.before.before.before.before.before.before.before.if1.false c.before.before.before.before.before.before.before.kind_at.ensures (λ i. omega (arith, c.before.before.before.before.before.before.before.before.before.before.before.before.shared-slice-known.given i)) c.before.before.before.before.before.before.to-usize.ensures.0 c.before.before.before.before.before.place_at.ensures (c.before.before.before.before.is-token.ensures.some c.before.before.before.if3.true) c.before.before.token-at.ensures c.enum-told2.given.1
 
 loop-less-2 : tie.Need-loop-smaller-2 invariant-loop decreases-loop
 loop-less-2 c = let w = c.before.before.before.token-at.ensures.reached _ _ c.before.value.given.1 in omega (arith, w.past, w.inside)
 
 loop-again-2 : tie.Need-loop-preserved-2 invariant-loop decreases-loop
-loop-again-2 c = turn-token _ _ _ _ c.before.before.before.before.before.before.before.before.before.before.loop.invariant c.before.before.before.before.before.before.before.before.before.if1.false c.before.before.before.before.before.before.before.before.kind_at.ensures (λ i. omega (arith, c.before.before.before.before.before.before.before.before.before.before.before.before.before.shared-slice-known.given i)) c.before.before.before.before.before.before.before.to-usize.ensures.0 c.before.before.before.before.before.before.place_at.ensures (c.before.before.before.before.before.is-token.ensures.some c.before.before.before.before.if3.true) c.before.before.before.token-at.ensures c.before.value.given.1
+loop-again-2 c = turn_token _ _ _ _ c.before.before.before.before.before.before.before.before.before.before.loop.invariant c.before.before.before.before.before.before.before.before.before.if1.false c.before.before.before.before.before.before.before.before.kind_at.ensures (λ i. omega (arith, c.before.before.before.before.before.before.before.before.before.before.before.before.before.shared-slice-known.given i)) c.before.before.before.before.before.before.before.to-usize.ensures.0 c.before.before.before.before.before.before.place_at.ensures (c.before.before.before.before.before.is-token.ensures.some c.before.before.before.before.if3.true) c.before.before.before.token-at.ensures c.before.value.given.1
 
 returns-4 : tie.Need-returns-4 invariant-loop decreases-loop
-returns-4 c = turn-not _ _ _ _ c.before.before.before.before.before.before.before.loop.invariant c.before.before.before.before.before.before.if1.false c.before.before.before.before.before.kind_at.ensures (λ i. omega (arith, c.before.before.before.before.before.before.before.before.before.before.shared-slice-known.given i)) c.before.before.before.before.to-usize.ensures.0 c.before.before.before.place_at.ensures c.if4.true c.before.before.is-token.ensures c.before.if3.false
+returns-4 c = turn_not _ _ _ _ c.before.before.before.before.before.before.before.loop.invariant c.before.before.before.before.before.before.if1.false c.before.before.before.before.before.kind_at.ensures (λ i. omega (arith, c.before.before.before.before.before.before.before.before.before.before.shared-slice-known.given i)) c.before.before.before.before.to-usize.ensures.0 c.before.before.before.place_at.ensures c.if4.true c.before.before.is-token.ensures c.before.if3.false
 
 returns-5 : tie.Need-returns-5 invariant-loop decreases-loop
-returns-5 c = turn-deep _ _ _ _ c.before.before.before.before.before.before.before.before.loop.invariant c.before.before.before.before.before.before.before.if1.false c.before.before.before.before.before.before.kind_at.ensures (λ i. omega (arith, c.before.before.before.before.before.before.before.before.before.before.before.shared-slice-known.given i)) c.before.before.before.before.before.to-usize.ensures.0 c.before.before.before.before.place_at.ensures c.before.if4.false c.if5.true
+returns-5 c = turn_deep _ _ _ _ c.before.before.before.before.before.before.before.before.loop.invariant c.before.before.before.before.before.before.before.if1.false c.before.before.before.before.before.before.kind_at.ensures (λ i. omega (arith, c.before.before.before.before.before.before.before.before.before.before.before.shared-slice-known.given i)) c.before.before.before.before.before.to-usize.ensures.0 c.before.before.before.before.place_at.ensures c.before.if4.false c.if5.true
 
 element-at-requires : tie.Need-element-at-requires invariant-loop decreases-loop
-element-at-requires c κs = record { sound = c.before.before.before.before.before.before.before.before.before.before.before.before.requires.sound; kind = open-kind _ _ _ _ c.before.before.before.before.before.before.before.before.loop.invariant c.before.before.before.before.before.before.before.if1.false c.before.before.before.before.before.before.kind_at.ensures; inside = c.before.before.before.before.before.before.before.before.loop.invariant.inside }
+element-at-requires c κs = record { sound = c.before.before.before.before.before.before.before.before.before.before.before.before.requires.sound; kind = open_kind _ _ _ _ c.before.before.before.before.before.before.before.before.loop.invariant c.before.before.before.before.before.before.before.if1.false c.before.before.before.before.before.before.kind_at.ensures; inside = c.before.before.before.before.before.before.before.before.loop.invariant.inside }
 
 returns-6 : tie.Need-returns-6 invariant-loop decreases-loop
-returns-6 c = turn-no-element _ _ _ _ c.before.before.before.before.before.before.before.before.before.before.before.loop.invariant c.before.before.before.before.before.before.before.before.before.before.if1.false c.before.before.before.before.before.before.before.before.before.kind_at.ensures (λ i. omega (arith, c.before.before.before.before.before.before.before.before.before.before.before.before.before.before.shared-slice-known.given i)) c.before.before.before.before.before.before.before.before.to-usize.ensures.0 c.before.before.before.before.before.before.before.place_at.ensures c.before.before.before.before.if4.false c.before.before.before.if5.false c.before.before.element-at.ensures c.enum-told3.given.1
+returns-6 c = turn_no_element _ _ _ _ c.before.before.before.before.before.before.before.before.before.before.before.loop.invariant c.before.before.before.before.before.before.before.before.before.before.if1.false c.before.before.before.before.before.before.before.before.before.kind_at.ensures (λ i. omega (arith, c.before.before.before.before.before.before.before.before.before.before.before.before.before.before.shared-slice-known.given i)) c.before.before.before.before.before.before.before.before.to-usize.ensures.0 c.before.before.before.before.before.before.before.place_at.ensures c.before.before.before.before.if4.false c.before.before.before.if5.false c.before.before.element-at.ensures c.enum-told3.given.1
 
 cast-firsts : tie.Need-overflow-cast-firsts invariant-loop decreases-loop
-cast-firsts c = let z = open-short _ _ _ _ c.before.before.before.before.before.before.before.before.before.before.before.before.loop.invariant c.before.before.before.before.before.before.before.before.before.before.before.if1.false c.before.before.before.before.before.before.before.before.before.before.before.before.before.before.before.before.requires.sound.short in omega (arith, z.0)
+cast-firsts c = let z = open_short _ _ _ _ c.before.before.before.before.before.before.before.before.before.before.before.before.loop.invariant c.before.before.before.before.before.before.before.before.before.before.before.if1.false c.before.before.before.before.before.before.before.before.before.before.before.before.before.before.before.before.requires.sound.short in omega (arith, z.0)
 
 mul-firsts : tie.Need-overflow-mul-firsts invariant-loop decreases-loop
 mul-firsts c = omega (arith, c.before.before.before.before.before.before.before.before.before.before.before.before.loop.invariant.shallow, c.before.before.before.before.if5.false)
@@ -125,7 +125,7 @@ array-write-firsts : tie.Need-array-write-firsts invariant-loop decreases-loop
 array-write-firsts c = omega (arith, c.before.before.before.before.before.before.before.before.before.before.before.before.loop.invariant.shallow, c.before.before.before.before.if5.false)
 
 cast-lasts : tie.Need-overflow-cast-lasts invariant-loop decreases-loop
-cast-lasts c = let z = open-short _ _ _ _ c.before.before.before.before.before.before.before.before.before.before.before.before.loop.invariant c.before.before.before.before.before.before.before.before.before.before.before.if1.false c.before.before.before.before.before.before.before.before.before.before.before.before.before.before.before.before.requires.sound.short in omega (arith, z.1)
+cast-lasts c = let z = open_short _ _ _ _ c.before.before.before.before.before.before.before.before.before.before.before.before.loop.invariant c.before.before.before.before.before.before.before.before.before.before.before.if1.false c.before.before.before.before.before.before.before.before.before.before.before.before.before.before.before.before.requires.sound.short in omega (arith, z.1)
 
 mul-lasts : tie.Need-overflow-mul-lasts invariant-loop decreases-loop
 mul-lasts c = omega (arith, c.before.before.before.before.before.before.before.before.before.before.before.before.loop.invariant.shallow, c.before.before.before.before.if5.false)
@@ -140,10 +140,10 @@ array-write-tags : tie.Need-array-write-tags invariant-loop decreases-loop
 array-write-tags c = omega (arith, c.before.before.before.before.before.before.before.before.before.before.before.before.loop.invariant.shallow, c.before.before.before.before.if5.false)
 
 sub-sizes : tie.Need-overflow-sub-sizes invariant-loop decreases-loop
-sub-sizes c = let v = turn-past _ _ _ _ c.before.before.before.before.before.before.before.before.before.before.before.before.loop.invariant c.before.before.before.before.before.before.before.before.before.before.before.if1.false c.before.before.before.before.before.before.before.before.before.before.kind_at.ensures (λ i. omega (arith, c.before.before.before.before.before.before.before.before.before.before.before.before.before.before.before.shared-slice-known.given i)) c.before.before.before.before.before.before.before.before.before.to-usize.ensures.0 c.before.before.before.before.before.before.before.before.place_at.ensures c.before.before.before.before.before.if4.false c.before.before.before.before.if5.false c.before.before.before.element-at.ensures c.before.first.given.1 in omega (arith, v.0)
+sub-sizes c = let v = turn_past _ _ _ _ c.before.before.before.before.before.before.before.before.before.before.before.before.loop.invariant c.before.before.before.before.before.before.before.before.before.before.before.if1.false c.before.before.before.before.before.before.before.before.before.before.kind_at.ensures (λ i. omega (arith, c.before.before.before.before.before.before.before.before.before.before.before.before.before.before.before.shared-slice-known.given i)) c.before.before.before.before.before.before.before.before.before.to-usize.ensures.0 c.before.before.before.before.before.before.before.before.place_at.ensures c.before.before.before.before.before.if4.false c.before.before.before.before.if5.false c.before.before.before.element-at.ensures c.before.first.given.1 in omega (arith, v.0)
 
 add-sizes : tie.Need-overflow-add-sizes invariant-loop decreases-loop
-add-sizes c = let v = turn-past _ _ _ _ c.before.before.before.before.before.before.before.before.before.before.before.before.loop.invariant c.before.before.before.before.before.before.before.before.before.before.before.if1.false c.before.before.before.before.before.before.before.before.before.before.kind_at.ensures (λ i. omega (arith, c.before.before.before.before.before.before.before.before.before.before.before.before.before.before.before.shared-slice-known.given i)) c.before.before.before.before.before.before.before.before.before.to-usize.ensures.0 c.before.before.before.before.before.before.before.before.place_at.ensures c.before.before.before.before.before.if4.false c.before.before.before.before.if5.false c.before.before.before.element-at.ensures c.before.first.given.1 in omega (arith, v.0, v.1, c.before.before.before.before.before.before.before.before.before.before.before.before.loop.invariant.inside)
+add-sizes c = let v = turn_past _ _ _ _ c.before.before.before.before.before.before.before.before.before.before.before.before.loop.invariant c.before.before.before.before.before.before.before.before.before.before.before.if1.false c.before.before.before.before.before.before.before.before.before.before.kind_at.ensures (λ i. omega (arith, c.before.before.before.before.before.before.before.before.before.before.before.before.before.before.before.shared-slice-known.given i)) c.before.before.before.before.before.before.before.before.before.to-usize.ensures.0 c.before.before.before.before.before.before.before.before.place_at.ensures c.before.before.before.before.before.if4.false c.before.before.before.before.if5.false c.before.before.before.element-at.ensures c.before.first.given.1 in omega (arith, v.0, v.1, c.before.before.before.before.before.before.before.before.before.before.before.before.loop.invariant.inside)
 
 mul-sizes : tie.Need-overflow-mul-sizes invariant-loop decreases-loop
 mul-sizes c = omega (arith, c.before.before.before.before.before.before.before.before.before.before.before.before.loop.invariant.shallow, c.before.before.before.before.if5.false)
@@ -155,10 +155,10 @@ add-depth : tie.Need-overflow-add-depth invariant-loop decreases-loop
 add-depth c = omega (arith, c.before.before.before.before.before.before.before.before.before.before.before.before.loop.invariant.shallow, c.before.before.before.before.if5.false)
 
 loop-less-3 : tie.Need-loop-smaller-3 invariant-loop decreases-loop
-loop-less-3 c = let v = turn-past _ _ _ _ c.before.before.before.before.before.before.before.before.before.before.before.before.loop.invariant c.before.before.before.before.before.before.before.before.before.before.before.if1.false c.before.before.before.before.before.before.before.before.before.before.kind_at.ensures (λ i. omega (arith, c.before.before.before.before.before.before.before.before.before.before.before.before.before.before.before.shared-slice-known.given i)) c.before.before.before.before.before.before.before.before.before.to-usize.ensures.0 c.before.before.before.before.before.before.before.before.place_at.ensures c.before.before.before.before.before.if4.false c.before.before.before.before.if5.false c.before.before.before.element-at.ensures c.before.first.given.1 in omega (arith, v.0, v.1)
+loop-less-3 c = let v = turn_past _ _ _ _ c.before.before.before.before.before.before.before.before.before.before.before.before.loop.invariant c.before.before.before.before.before.before.before.before.before.before.before.if1.false c.before.before.before.before.before.before.before.before.before.before.kind_at.ensures (λ i. omega (arith, c.before.before.before.before.before.before.before.before.before.before.before.before.before.before.before.shared-slice-known.given i)) c.before.before.before.before.before.before.before.before.before.to-usize.ensures.0 c.before.before.before.before.before.before.before.before.place_at.ensures c.before.before.before.before.before.if4.false c.before.before.before.before.if5.false c.before.before.before.element-at.ensures c.before.first.given.1 in omega (arith, v.0, v.1)
 
 loop-again-3 : tie.Need-loop-preserved-3 invariant-loop decreases-loop
-loop-again-3 c = turn-down _ _ _ _ c.before.before.before.before.before.before.before.before.before.before.before.before.loop.invariant c.before.before.before.before.before.before.before.before.before.before.before.if1.false c.before.before.before.before.before.before.before.before.before.before.kind_at.ensures (λ i. omega (arith, c.before.before.before.before.before.before.before.before.before.before.before.before.before.before.before.shared-slice-known.given i)) c.before.before.before.before.before.before.before.before.before.to-usize.ensures.0 c.before.before.before.before.before.before.before.before.place_at.ensures c.before.before.before.before.before.if4.false c.before.before.before.before.if5.false c.before.before.before.element-at.ensures c.before.first.given.1 c.before.before.before.before.before.before.before.before.before.before.before.before.before.before.before.before.requires.sound.short
+loop-again-3 c = turn_down _ _ _ _ c.before.before.before.before.before.before.before.before.before.before.before.before.loop.invariant c.before.before.before.before.before.before.before.before.before.before.before.if1.false c.before.before.before.before.before.before.before.before.before.before.kind_at.ensures (λ i. omega (arith, c.before.before.before.before.before.before.before.before.before.before.before.before.before.before.before.shared-slice-known.given i)) c.before.before.before.before.before.before.before.before.before.to-usize.ensures.0 c.before.before.before.before.before.before.before.before.place_at.ensures c.before.before.before.before.before.if4.false c.before.before.before.before.if5.false c.before.before.before.element-at.ensures c.before.first.given.1 c.before.before.before.before.before.before.before.before.before.before.before.before.before.before.before.before.requires.sound.short
 
 pub text-at-spec : {M : Type 1} → statement M
 text-at-spec =

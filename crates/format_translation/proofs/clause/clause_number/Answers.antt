@@ -1,0 +1,9 @@
+use Rattle.format_translation.proofs.Clauses.{with_number, no_number}
+use borrow.Author.Rules.{rules}
+use Rattle.format_translation.proofs.clause.clause_number.Goals as goal
+
+pub returns-then-body-p-eq-NUMBERED_CLAUSE : goal.returns-then-body-p-eq-NUMBERED_CLAUSE
+returns-then-body-p-eq-NUMBERED_CLAUSE c = with_number _ _ c.if-body-p-eq-NUMBERED_CLAUSE.true _ c.byte_at.ensures
+
+pub returns : goal.returns
+returns c = no_number _ _ c.if-body-p-eq-NUMBERED_CLAUSE.false

@@ -1,0 +1,17 @@
+use borrow.Author.Rules.{rules}
+use Prim.Native.Nat.{◌-◌}
+use mathlib.Core.Path.{◌≡◌, refl}
+use lib.ListN.{length}
+use Rattle.format_fields.specs.Inner.Places.{places_from, places}
+use Rattle.tree_reader.specs.Inner.Index.{put_all}
+use Rattle.tree_reader.proofs.Lookup.{puts_done, puts_next}
+use Rattle.tree_reader.proofs.index.put_all.Goals as goal
+
+pub loop-p-init : goal.loop-p-init
+loop-p-init c = (refl, refl)
+
+pub loop-p-preserved : goal.loop-p-preserved
+loop-p-preserved c = (search rules, puts_next _ _ _ _ _ c.loop-p.invariant.1 _ _ _ _ c.put.ensures c.slot_at.ensures.0 refl c.field_end-p.ensures.is c.loop-p-test.true)
+
+pub returns : goal.returns
+returns c = puts_done _ _ _ _ _ c.loop-p.invariant.1 c.loop-p-test.false

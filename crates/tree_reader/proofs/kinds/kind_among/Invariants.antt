@@ -1,0 +1,14 @@
+use borrow.Author.Rules.{rules}
+use Prim.Native.Nat.{◌-◌}
+use mathlib.Core.Path.{◌≡◌, refl}
+use lib.Seq.{slice}
+use lib.Dec.{eqb}
+use Rattle.format_fields.specs.Lists.{any}
+use Rattle.tree_reader.proofs.Members.{among_done, among_stop, among_next}
+use Rattle.tree_reader.proofs.kinds.kind_among.Given as goal
+
+abbrev pub invariant-loop-q : goal.invariant-loop-q
+invariant-loop-q l = any (λ a. eqb a l.kind) (slice l.q l.e l.s) ≡ any (λ a. eqb a l.kind) (slice l.p l.e l.s)
+
+abbrev pub decreases-loop-q : goal.decreases-loop-q
+decreases-loop-q l = l.e - l.q
