@@ -1,9 +1,9 @@
 use native.Mathlib.Omega.{arith}
-use Rattle.listing.proofs.Lines.{puts-other, puts-short, puts-short-numbered, puts_whole, puts_numbered_whole}
+use Rattle.listing.proofs.Lines.{puts_other, puts_short, puts_short_numbered, puts_whole, puts_numbered_whole}
 use Rattle.listing.proofs.clauses.put_contents.Goals as goal
 
 pub returns-then-contents-lt2 : goal.returns-then-contents-lt2
-returns-then-contents-lt2 c = (puts-short _ _ _ _ (omega arith) c.if-tag-eq-CLAUSE.true c.if-contents-lt2.true, omega arith)
+returns-then-contents-lt2 c = (puts_short _ _ _ _ (omega arith) c.if-tag-eq-CLAUSE.true c.if-contents-lt2.true, omega arith)
 
 pub returns-then-tag-eq-CLAUSE : goal.returns-then-tag-eq-CLAUSE
 returns-then-tag-eq-CLAUSE c = (
@@ -12,7 +12,7 @@ returns-then-tag-eq-CLAUSE c = (
 )
 
 pub returns-then-contents-lt3 : goal.returns-then-contents-lt3
-returns-then-contents-lt3 c = (puts-short-numbered _ _ _ _ (omega arith) c.if-tag-eq-NUMBERED_CLAUSE.true c.if-contents-lt3.true, omega arith)
+returns-then-contents-lt3 c = (puts_short_numbered _ _ _ _ (omega arith) c.if-tag-eq-NUMBERED_CLAUSE.true c.if-contents-lt3.true, omega arith)
 
 pub returns-then-tag-eq-NUMBERED_CLAUSE : goal.returns-then-tag-eq-NUMBERED_CLAUSE
 returns-then-tag-eq-NUMBERED_CLAUSE c = (
@@ -21,4 +21,4 @@ returns-then-tag-eq-NUMBERED_CLAUSE c = (
 )
 
 pub returns : goal.returns
-returns c = (puts-other _ _ _ _ (omega arith) c.if-tag-eq-CLAUSE.false c.if-tag-eq-NUMBERED_CLAUSE.false, omega arith)
+returns c = (puts_other _ _ _ _ (omega arith) c.if-tag-eq-CLAUSE.false c.if-tag-eq-NUMBERED_CLAUSE.false, omega arith)
