@@ -1,12 +1,16 @@
 // The display program (paper 02, 2026-06): prints the block that a path leads to, as it is handed back.
 #![tactic(auto)]
+
 ghost use Rattle.std.specs.Prelude.{◌≡◌, ◌+◌, ◌*◌, ◌<◌, ◌≤◌, length, take};
 ghost use Rattle.io.specs.Counts.{IsPrefixLen};
 ghost use Rattle.display.specs.Display.{root_in, display};
 ghost use Rattle.display.specs.Inner.Showing.{ShownBy};
 
-use libc::STDOUT_FILENO;
+use program_text::input::read_full;
 use program_text::text::{put, put_first, put_hex};
+use std::fs::File;
+use std::io;
+use std::rt::Files;
 use tree_block::show::block;
 
 // A language of more than 1,024 bytes is too long: one byte more shows that.
@@ -71,30 +75,27 @@ fn show(
 }
 
 // Reads the start of a file, and answers how many bytes came. A missing file counts as empty.
-fn read_file(name: &[u8], bytes: &mut [u8]) -> usize
+fn read_file(files: &impl Files, name: &str, bytes: &mut [u8]) -> usize
     ensures { IsPrefixLen result bytes.new }
 {
-    let file = os::open_read(name);
-    if file < 0 {
-        return 0;
+    match File::open(files, name) {
+        Ok(mut file) => read_full(&mut file, bytes),
+        Err(_) => 0,
     }
-    let n = io::read_full(file, bytes);
-    libc::close(file);
-    n
 }
 
 // The files of the plan stand in the folder in which the program is run.
-fn main() {
+fn main(rt: HostRuntime) -> io::Result<()> {
     let mut language = [0u8; LANGUAGE_ROOM];
     let mut root = [0u8; 2];
     let mut plan = [0u8; PLAN_ROOM];
     let mut index = [0u8; INDEX_ROOM];
     let mut path = [0u8; PATH_ROOM];
-    let languages = read_file(b"plan.language", &mut language);
-    let roots = read_file(b"plan.root", &mut root);
-    let plans = read_file(b"plan.tree", &mut plan);
-    let indexes = read_file(b"plan.index", &mut index);
-    let paths = read_file(b"plan.path", &mut path);
+    let languages = read_file(&rt, "plan.language", &mut language);
+    let roots = read_file(&rt, "plan.root", &mut root);
+    let plans = read_file(&rt, "plan.tree", &mut plan);
+    let indexes = read_file(&rt, "plan.index", &mut index);
+    let paths = read_file(&rt, "plan.path", &mut path);
     let mut text = [0u8; TEXT_ROOM];
     let end = show(
         &language[..languages],
@@ -104,5 +105,5 @@ fn main() {
         &path[..paths],
         &mut text,
     );
-    io::write_all(STDOUT_FILENO, &text[..end]);
+    rt.write_all(&text[..end])
 }

@@ -1,5 +1,6 @@
 // The listing program (paper 01, "Strap examples"): prints what the pack in the file plan.pack is reduced to.
 #![tactic(auto)]
+
 mod answer;
 mod clauses;
 
@@ -10,8 +11,11 @@ ghost use Rattle.listing.specs.Listing.{listing};
 use answer::put_outcome;
 use format_pack::check::PACK_LIMIT;
 use format_translation::parts::TRANSLATION_LIMIT;
-use libc::STDOUT_FILENO;
+use program_text::input::read_full;
 use reduce_operation::reduce::{WORKSPACE, reduce};
+use std::fs::File;
+use std::io;
+use std::rt::Files;
 
 // So many bytes of the file are read: one more than a pack can have shows that it is too long.
 const PACK: usize = PACK_LIMIT + 1;
@@ -20,16 +24,13 @@ const PACK: usize = PACK_LIMIT + 1;
 const TEXT: usize = 32 + 3 * TRANSLATION_LIMIT;
 
 // Reads the start of the file plan.pack, and answers how many bytes came. A missing file counts as empty.
-fn read_pack(pack: &mut [u8]) -> usize
+fn read_pack(files: &impl Files, pack: &mut [u8]) -> usize
     ensures { IsPrefixLen result pack.new }
 {
-    let file = os::open_read(b"plan.pack");
-    if file < 0 {
-        return 0;
+    match File::open(files, "plan.pack") {
+        Ok(mut file) => read_full(&mut file, pack),
+        Err(_) => 0,
     }
-    let n = io::read_full(file, pack);
-    libc::close(file);
-    n
 }
 
 // Reduces the pack, and puts the text of what comes of it.
@@ -45,10 +46,10 @@ fn list(pack: &[u8], text: &mut [u8]) -> usize
 }
 
 // Reads the pack, and writes the text of what it is reduced to.
-fn main() {
+fn main(rt: HostRuntime) -> io::Result<()> {
     let mut pack = [0u8; PACK];
-    let n = read_pack(&mut pack);
+    let n = read_pack(&rt, &mut pack);
     let mut text = [0u8; TEXT];
     let end = list(&pack[..n], &mut text);
-    io::write_all(STDOUT_FILENO, &text[..end]);
+    rt.write_all(&text[..end])
 }

@@ -1,5 +1,5 @@
 -- The numbers of refusals are small.
-use Prim.Native.Nat.{ℕ, ◌<◌}
+use Prim.Native.Nat.{◌<◌}
 use native.Mathlib.Omega.{arith}
 use Rattle.outcome.specs.Outcome.{reason_number, number_of}
 use Rattle.outcome.specs.declared.Reason.{Reason}
