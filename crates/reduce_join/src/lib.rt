@@ -1,4 +1,5 @@
 // The join of two translations on bytes.
 #![tactic(auto)]
+
 pub mod body;
 pub mod join;

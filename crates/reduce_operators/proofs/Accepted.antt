@@ -1,11 +1,11 @@
 -- What is known of languages and translations in their own bytes, and of what is made of them.
-use Prim.Native.Nat.{ℕ, ◌+◌, ◌≤◌, ◌<◌}
+use Prim.Native.Nat.{ℕ, ◌≤◌, ◌<◌}
 use mathlib.Core.Path.{◌≡◌, refl, sym, ap, subst, ◌∙◌}
 use mathlib.Core.Bool.{Bool, true, false, not, ◌||◌}
 use mathlib.Core.List.{List, ◌++◌, map}
 use native.Mathlib.Omega.{arith}
 use mathlib.Core.Option.{some}
-use lib.ListN.{length, take, drop, take-append-drop, length-append}
+use lib.ListN.{length, length-append}
 use lib.Seq.{slice}
 use lib.Dec.{ltb}
 use borrow.Author.Tests.{le-ltb, lt-ltb}
@@ -13,7 +13,6 @@ use Rattle.outcome.specs.Outcome.{Result, value, refused, refuse_if}
 use Rattle.outcome.specs.declared.Outcome.{Outcome}
 use Rattle.outcome.specs.declared.Reason.TheVariants.{BrokenField, ValueTooLarge}
 use Rattle.format_fields.specs.Fields.{field, byte_at, encode_field, encode_fields}
-use Rattle.format_fields.specs.Inner.Places.{field_end}
 use Rattle.format_fields.specs.Lists.{any, same_numbers}
 use Rattle.format_fields.proofs.Truth.{Mem, or_right, false_any, all_mem, numbers_equal, equal_numbers}
 use Rattle.format_fields.proofs.Keyed.{is_rising}

@@ -9,12 +9,12 @@ use native.Mathlib.Omega.{arith}
 use lib.ListN.{length, take, drop, length-append, length-take, length-drop, get_or-append}
 use lib.Seq.{slice, take-append_seam, drop-append_seam, get_or-append-add}
 use lib.Dec.{ltb, leb, eqb}
-use borrow.Author.Tests.{lt-ltb, le-ltb, ltb-true, ltb-false, le-leb, eq-eqb, ne_eqb, leb-true, eqb-true}
+use borrow.Author.Tests.{lt-ltb, le-ltb, ltb-true, ltb-false, eq-eqb, ne_eqb, leb-true, eqb-true}
 use Rattle.format_fields.specs.Lists.{all, concat_map, same_numbers}
 use Rattle.format_fields.specs.Fields.{Field, field, byte_at, pair_at, two_bytes, encode_field, encode_fields, fields_of}
 use Rattle.format_fields.specs.Keyed.{union, within, without, agree, rising}
 use Rattle.format_fields.specs.Inner.Places.{field_end, is_whole, long_at, field_at, key_at, item_order, order_at, places_from, places}
-use Rattle.format_fields.proofs.Truth.{Mem, by_test, and_both, both_and, or_left, or_right, same_truth, numbers_equal, equal_numbers}
+use Rattle.format_fields.proofs.Truth.{Mem, by_test, and_both, both_and, or_right, same_truth, numbers_equal, equal_numbers}
 use Rattle.format_fields.proofs.Codec.{Each, contents_of, cond_some, fields_encode, field_length}
 use Rattle.format_fields.proofs.Lists.{all_true, rising_map, part_past}
 use Rattle.format_fields.proofs.Split.{fields_at_places}
@@ -314,11 +314,20 @@ entry_equal (class k a) (production s q js) e = let z : ◌≡◌ {A = ℕ} 0x11
 entry_equal (production r p ks) (class j c) e = let z : ◌≡◌ {A = ℕ} 0x12 0x11 = cc in absurd (omega arith)
 entry_equal (production r p ks) (production s q js) e = cc
 
-entries : Kept 0x11 entry_field entry_key same_entry
+entry_long : (a : Entry) → Long (entry_field a)
+unfolding entry_field
+entry_long (class k c) = omega arith
+entry_long (production r p ks) = omega arith
+
+entry_key_lem : (a : Entry) → field_key 0x11 (entry_field a) ≡ entry_key a
 unfolding entry_field entry_key pair_at
+entry_key_lem (class k c) = refl
+entry_key_lem (production r p ks) = refl
+
+entries : Kept 0x11 entry_field entry_key same_entry
 entries = record {
-  long = λ a. elim a [ class k c ↦ omega arith | production r p ks ↦ omega arith ];
-  keys = λ a. elim a [ class k c ↦ refl | production r p ks ↦ refl ];
+  long = entry_long;
+  keys = entry_key_lem;
   tells = entry_equal;
   alike_equal = Entries.same_equal;
   equal_alike = Entries.equal_same;

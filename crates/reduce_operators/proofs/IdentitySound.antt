@@ -87,6 +87,8 @@ clause_from : (a : Item) (e : Entry) → Mem a (identity_clause e)
     → (r : ℕ) × (p : ℕ) × (ks : List ℕ) × (e ≡ production r p ks) × (a ≡ clause r p 0 (write code (node r p (arguments_from 1 ks))))
 unfolding identity_clause
 clause_from a (production r p ks) (inl e) = (r, p, ks, refl, e)
+clause_from a (production r p ks) (inr x3) = elim x3 [ ]
+clause_from a (class kind values) x' = elim x' [ ]
 
 -- Their keys are past the kinds.
 clauses_past : (n : ℕ) (b : Body) → From item_key n b → ((a : Item) → Mem a b → 8192 ≤ item_key a) → From item_key 8192 b

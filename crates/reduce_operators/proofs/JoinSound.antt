@@ -132,7 +132,7 @@ module _ (f g : Translation) (sf : Sound f) (sg : Sound g) (h : join_fits f g �
         let x = chained_mapping k (paired i j) t (mapping_mem (joined f g).body k (paired i j) t e) in
         let n = x.number in
         let b = first_low x.reaches x.by_first t x.first in
-        let second : x.by-second ≡ i = omega arith in
+        let second : x.by_second ≡ i = omega arith in
         let first : x.by_first ≡ j = omega arith in (
           x.reaches,
           mem_mapping g.body sg.rises k i x.reaches (rw second at x.second),
@@ -216,22 +216,22 @@ module _ (f g : Translation) (sf : Sound f) (sg : Sound g) (h : join_fits f g �
     unfolding item_whole
     join_whole (mapping s n t) m =
         let x = chained_mapping s n t m in
-        let y = and_both (is_kind s) _ (sg.whole (mapping s x.by-second x.reaches) x.second) in
+        let y = and_both (is_kind s) _ (sg.whole (mapping s x.by_second x.reaches) x.second) in
         let z = and_both (is_kind x.reaches) _ (sf.whole (mapping x.reaches x.by_first t) x.first) in
         let k = and_both (is_kind t) _ z.1 in
         both_and (is_kind s) _ y.0 (both_and (is_kind t) _ k.0 (pair_below s _ _ _ t n x.number x.second x.first))
     join_whole (clause r p n c) m =
         let x = composed_clause r p n c m in
-        let y = and_both (is_kind r) _ (sg.whole (clause r p x.by-second x.bytes) x.whole) in
+        let y = and_both (is_kind r) _ (sg.whole (clause r p x.by_second x.bytes) x.whole) in
         both_and (is_kind r) _ y.0 (pair_below r _ _ _ _ n x.number x.second x.first)
 
     module _ (shallows : (a : Item) → Mem a (joined f g).body → code_is_deep (joined f g) a ≡ false) where
       join_read : (r p n : ℕ) (c : List ℕ) (m : Mem (clause r p n c) (joined f g).body) (x : Composed r p n c)
-          → read_clause (joined f g) r p n c ≡ done (run (clauses_of f) x.by_first (clauses_of g r p x.by-second)) []
+          → read_clause (joined f g) r p n c ≡ done (run (clauses_of f) x.by_first (clauses_of g r p x.by_second)) []
       unfolding read_clause code_is_deep joined mapped
       join_read r p n c m x =
-          let a = run (clauses_of f) x.by_first (clauses_of g r p x.by-second) in
-          let i = x.by-second in
+          let a = run (clauses_of f) x.by_first (clauses_of g r p x.by_second) in
+          let i = x.by_second in
           let j = x.by_first in
           let ks = x.arguments in
           let e = mem_arguments g.source sg.source.rises r p ks x.entry in
@@ -265,7 +265,7 @@ module _ (f g : Translation) (sf : Sound f) (sg : Sound g) (h : join_fits f g �
             let x = chained_mapping r n t q in
             let c = sg.fits.clauses r p _ _ ks m x.second in
             let y = clause_joined r p _ c.0 _ _ t c.1 x.second x.first in
-            let bytes = write code (run (clauses_of f) x.by_first (clauses_of g r p x.by-second)) in
+            let bytes = write code (run (clauses_of f) x.by_first (clauses_of g r p x.by_second)) in
             (bytes, subst (λ (z : ℕ). Mem (clause r p z bytes) (joined f g).body) (sym x.number) y);
         clauses_only = λ r p n c m.
             let x = composed_clause r p n c m in
@@ -287,8 +287,8 @@ module _ (f g : Translation) (sf : Sound f) (sg : Sound g) (h : join_fits f g �
           let c = join_fits_lem.clauses k p n t ks (arguments_mem g.source k p ks e) (mapping_mem (joined f g).body k n t q) in
           let x = composed_clause k p n c.0 c.1 in
           let l = first_low x.reaches x.by_first x.target x.first in
-          let i : n / 16 ≡ x.by-second = ap (λ (z : ℕ). z / 16) x.number ∙ pair_first x.by-second x.by_first l in
-          let j : n % 16 ≡ x.by_first = ap (λ (z : ℕ). z % 16) x.number ∙ pair_second x.by-second x.by_first l in
+          let i : n / 16 ≡ x.by_second = ap (λ (z : ℕ). z / 16) x.number ∙ pair_first x.by_second x.by_first l in
+          let j : n % 16 ≡ x.by_first = ap (λ (z : ℕ). z % 16) x.number ∙ pair_second x.by_second x.by_first l in
           (λ z. run (clauses_of f) (j z) (clauses_of g k p (i z)))
           ∙ sym (clause_code (joined f g) body_rises k p n c.0 _ c.1 (join_read k p n c.0 c.1 x))
 

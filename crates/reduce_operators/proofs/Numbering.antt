@@ -9,8 +9,8 @@ use lib.ListN.{length, get_or}
 use lib.Dec.{ltb, eqb}
 use borrow.Author.Tests.{lt-ltb, le-ltb, ltb-true, eq-eqb, ne_eqb}
 use Rattle.format_fields.specs.Lists.{all, is_some}
-use Rattle.format_fields.specs.Inner.Places.{field_end, places_from, places, order_at}
-use Rattle.format_fields.proofs.Truth.{Mem, by_test, false_true, and_both, both_and, all_mem, mem_all, same_truth, some_is, is_some_lem}
+use Rattle.format_fields.specs.Inner.Places.{field_end, places_from, order_at}
+use Rattle.format_fields.proofs.Truth.{Mem, false_true, and_both, both_and, all_mem, mem_all, same_truth, some_is, is_some_lem}
 use Rattle.format_fields.proofs.Places.{places_next, places_done}
 use Rattle.format_language.specs.Language.{is_in}
 use Rattle.tree_reader.specs.Inner.Positions.{kind_before, mapped_in}
@@ -20,7 +20,6 @@ use Rattle.format_translation.specs.Inner.Items.{item_whole, item_at, ItemFacts,
 use Rattle.format_translation.specs.Inner.ItemIndex.{Mapped}
 use Rattle.format_translation.proofs.Items.{item_facts, clause_is, numbered_clause_is, holds_items}
 use Rattle.format_translation.proofs.Lookup.{mapping_mem, mem_mapping}
-use Rattle.format_translation.proofs.Fitting.{Fitting}
 use Rattle.format_translation.proofs.Uses.{Front, Put}
 use Rattle.reduce_operators.specs.Operators.{number_kept, numbers_agree, low_number, numbers_low}
 use Rattle.reduce_operators.specs.Inner.Numbers.{mapping_below, number_in, key_known}

@@ -14,18 +14,16 @@ use Rattle.outcome.specs.Outcome.{value, refuse_if}
 use Rattle.outcome.specs.declared.Outcome.{Outcome}
 use Rattle.outcome.specs.declared.Outcome.TheVariants.{Refused}
 use Rattle.outcome.specs.declared.Reason.TheVariants.{ValueTooLarge}
-use Rattle.format_fields.specs.Lists.{all, keep, concat_map, count_up}
+use Rattle.format_fields.specs.Lists.{keep, concat_map, count_up}
 use Rattle.format_fields.specs.Fields.{byte_at, encode_field, encode_fields}
-use Rattle.format_fields.specs.Inner.Places.{field_end, places_from, places}
+use Rattle.format_fields.specs.Inner.Places.{field_end, places}
 use Rattle.format_fields.proofs.Codec.{concat_append}
-use Rattle.format_fields.proofs.Places.{every_here}
 use Rattle.format_language.specs.Language.{Entry, class, production, Language, is_in}
 use Rattle.format_language.specs.LanguageFile.{entries_of}
 use Rattle.format_language.specs.Inner.Entries.{entry_whole, entry_at, class_range, IsProduction}
 use Rattle.format_language.proofs.Facts.{entry_facts, production_is}
 use Rattle.format_language.proofs.Holds.{holds_entries}
 use Rattle.tree_reader.specs.Syntax.{write}
-use Rattle.tree_reader.proofs.Members.{entries_whole}
 use Rattle.format_translation.specs.Translation.{mapping, Body}
 use Rattle.format_translation.specs.TranslationFile.{item_field}
 use Rattle.format_translation.specs.WellFormed.{kinds}
@@ -36,7 +34,7 @@ use Rattle.format_fields.specs.Inner.Writing.{Stores}
 use Rattle.reduce_operators.specs.Inner.Values.{exact_language, translation_bytes, Gives}
 use Rattle.reduce_operators.proofs.Proper.{good_proper}
 use Rattle.reduce_operators.proofs.IdentitySound.{sound_identity}
-use Rattle.format_fields.proofs.Splices.{put_unwanted, both_full, both_then}
+use Rattle.format_fields.proofs.Splices.{put_unwanted, both_then}
 use Rattle.reduce_merge.proofs.Turns.{Progress, progress_start}
 use Rattle.reduce_operators.specs.Inner.Assembled.{assembled}
 use Rattle.reduce_operators.specs.Inner.Kept.{written_from}

@@ -1,5 +1,6 @@
 // The operators of the signs on bytes: copies, sums, "without", identities, and translations made of their parts.
 #![tactic(auto)]
+
 pub mod assemble;
 pub mod canonical;
 pub mod copy;

@@ -452,7 +452,7 @@ module _ {x : Syntax} {t input ends before state : List ℕ} {c stop left : ℕ}
       pub named_some : 2 < left % tree_level
       named_some = let h = inner_levels in omega arith
 
-      inner_asks : RowAsks x t input ends state (c + 2) (span_entry t c) (left - 1) f given ts ks named.inner named.innerKinds
+      inner_asks : RowAsks x t input ends state (c + 2) (span_entry t c) (left - 1) f given ts ks named.inner named.inner_kinds
       inner_asks =
           let n = g.asks.nodes in
           let h = inner_levels in
@@ -468,7 +468,7 @@ module _ {x : Syntax} {t input ends before state : List ℕ} {c stop left : ℕ}
 
       pub named_asks : {fin : ℕ} → fin ≡ span_entry t c
           → (us : Codes) × (js : List ℕ) × RowAsks x t input ends state (c + 2) fin (left - 1) f given ts ks us js
-      named_asks q = rw q (named.inner, named.innerKinds, inner_asks)
+      named_asks q = rw q (named.inner, named.inner_kinds, inner_asks)
 
       module _ {name : ℕ} (en : name ≡ body_byte t (c + 1)) {end : List ℕ} {e : ℕ} (w : Wrote (sign (syntax_of x) 1 ++ name ∷ []) mid end p e) where
         bytes_name : row_bytes x f ts g.rest ≡ (sign (syntax_of x) 1 ++ name ∷ []) ++ (row_bytes x f ts named.inner ++ row_bytes x f ts named.rest)
@@ -483,7 +483,7 @@ module _ {x : Syntax} {t input ends before state : List ℕ} {c stop left : ℕ}
             ap (λ (us : Codes). row_bytes x f ts named.inner ++ row_bytes x f ts us) z ∙ rw (row_nil x f ts) (append-nil (row_bytes x f ts named.inner)) in
             record {
               rest = named.inner;
-              kinds = named.innerKinds;
+              kinds = named.inner_kinds;
               asks = rw q at inner_asks;
               same = g.same;
               goes = λ after d k. goes_on _ _ bytes_name end e w after d (rw y k);

@@ -85,6 +85,8 @@ all_none : (x : Syntax) {l : Language} {given : Uses} (ts : Codes) (ks : List �
 unfolding write_all
 all_none x nil [] typed_nil z = refl
 all_none x (cons a ts) (k ∷ ks) (typed_cons p ps) z = absurd (omega arith)
+all_none x {l = l} {given = given} nil (k ∷ ks) x5 z = elim x5 [ ]
+all_none x {l = l} {given = given} (cons a ts) [] x5 z = elim x5 [ ]
 
 -- A row of terms that is still to be read: its kinds stand in the source from q up to e, its terms in the input from `to`
 -- on. It has d rows behind it.
@@ -219,6 +221,8 @@ module _ (x : Syntax) (t b : List ℕ) (l : Language) (given : Uses) where
             rest = subst (λ (j : ℕ). Rests d j) w r;
           };
         }
+    first_of {d = d} {q = q} {e = e} {to = to} nil (k ∷ ks) x15 n g s m r h = elim x15 [ ]
+    first_of {d = d} {q = q} {e = e} {to = to} (cons a ts) [] x10 n g s m r h = elim x10 [ ]
 
     pub first : {d q e to : ℕ} → (q ≡ e → ⊥) → Goes d q e to → First x t b l given firsts lasts end d q e to
     first h g = first_of _ _ g.row.typed g.row.known g.row.ends g.row.stands g.row.deep g.rest h

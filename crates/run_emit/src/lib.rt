@@ -1,5 +1,6 @@
 // The emitter: the run of a term through a translation, put into an output.
 #![tactic(auto)]
+
 pub mod put;
 pub mod run;
 pub mod skip;

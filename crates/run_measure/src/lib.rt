@@ -1,5 +1,6 @@
 // The length of the result of a run, and what the run costs, measured in one pass over the tree.
 #![tactic(auto)]
+
 pub mod capped;
 pub mod count;
 pub mod measure;

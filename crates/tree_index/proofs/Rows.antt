@@ -19,8 +19,8 @@ use Rattle.tree_index.proofs.Lying.{head_lies, tail_lie}
 -- What a walk asks of the reader.
 pub there_ready : (index s b : List ℕ) (at k : ℕ) (l : Language) (t : Code) → There index s b at k l t → Ready index s k b at
 there_ready index s b at k l t h = record {
-  sound = h.index-of.indexed.sound;
-  kind = in_below s k l h.index-of.indexed.entries h.lies.known;
+  sound = h.index_of.indexed.sound;
+  kind = in_below s k l h.index_of.indexed.entries h.lies.known;
   inside = h.lies.inside;
 }
 

@@ -117,7 +117,7 @@ module _ (index s b : List ℕ) (at k : ℕ) (l : Language) (x : Index index s l
 -- operands_at
 module _ (index s b : List ℕ) (at k : ℕ) (l : Language) (t : Code) (h : There index s b at k l t) (j c : ℕ) (ej : j ≡ k) (ec : c ≡ get_or index j 0) where
   small : k < 32
-  small = in_below s k l h.index-of.indexed.entries h.lies.known
+  small = in_below s k l h.index_of.indexed.entries h.lies.known
 
   class_is : c ≡ get_or index k 0
   class_is = ec ∙ ap (λ (i : ℕ). get_or index i 0) ej

@@ -1,4 +1,5 @@
 // Where the check of a tree stops.
 #![tactic(auto)]
+
 pub mod locate;
 pub mod walk;

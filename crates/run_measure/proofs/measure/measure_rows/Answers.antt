@@ -104,11 +104,8 @@ bounds-starts-depth-in-loop-end c = omega (arith, c.loop-end.invariant.0.shallow
 pub bounds-source-q-in-loop-end-2 : goal.bounds-source-q-in-loop-end-2
 bounds-source-q-in-loop-end-2 c = (open_in _ _ _ _ _ _ _ c.loop-end.invariant.0 c.if-end-q.false c.requires.0.short).0
 
-pub overflow_add-base : goal.overflow_add-base
-overflow_add-base c = let r = open_room _ _ _ _ _ _ _ c.loop-end.invariant.0 c.requires.5 in omega (arith, r)
-
 pub step_at-requires : goal.step_at-requires
-step_at-requires c = let z = open_in _ _ _ _ _ _ _ c.loop-end.invariant.0 c.if-end-q.false c.requires.0.short in let r = open_room _ _ _ _ _ _ _ c.loop-end.invariant.0 c.requires.5 in (c.requires.0, z.1, c.loop-end.invariant.0.inside, c.loop-end.invariant.0.under, c.loop-end.invariant.0.cheap, c.requires.6, c.requires.7, omega (arith, r, c.weigh-total.ensures.kept.long), c.weigh-total.ensures.is.1.0)
+step_at-requires c = let z = open_in _ _ _ _ _ _ _ c.loop-end.invariant.0 c.if-end-q.false c.requires.0.short in let r = open_room _ _ _ _ _ _ _ c.loop-end.invariant.0 c.requires.5 in (c.requires.0, z.1, c.loop-end.invariant.0.inside, c.loop-end.invariant.0.under, c.loop-end.invariant.0.cheap, c.requires.6, c.requires.7, omega (arith, r, c.weigh-total.ensures.kept.long), c.weigh-total.ensures.sums)
 
 pub shape_of-weights-in-Broken : goal.shape_of-weights-in-Broken
 shape_of-weights-in-Broken c = c.weigh-total.ensures.kept.long ∙ c.loop-end.invariant.2
@@ -117,7 +114,7 @@ pub shape_of-ends-in-Broken : goal.shape_of-ends-in-Broken
 shape_of-ends-in-Broken c = c.loop-end.invariant.3
 
 pub returns-in-Broken : goal.returns-in-Broken
-returns-in-Broken c = record { is = (open_broken _ _ _ _ _ _ _ c.loop-end.invariant.0 c.if-end-q.false (sym c.out_of_levels.ensures ∙ c.if-out_of_levels.false) _ c.weigh-total.ensures.is.0 _ c.step_at.ensures.is c.in-Broken.is, tt); learnt = c.loop-end.invariant.1.learnt }
+returns-in-Broken c = record { is = (open_broken _ _ _ _ _ _ _ c.loop-end.invariant.0 c.if-end-q.false (sym c.out_of_levels.ensures ∙ c.if-out_of_levels.false) _ c.weigh-total.ensures.is _ c.step_at.ensures.is c.in-Broken.is, tt); learnt = c.loop-end.invariant.1.learnt }
 
 pub overflow_add-q : goal.overflow_add-q
 overflow_add-q c = let z = open_in _ _ _ _ _ _ _ c.loop-end.invariant.0 c.if-end-q.false c.requires.0.short in omega (arith, z.2)
@@ -126,16 +123,16 @@ pub overflow_sub-q-then-last-first : goal.overflow_sub-q-then-last-first
 overflow_sub-q-then-last-first c = omega arith
 
 pub overflow_add-base-then-last-first : goal.overflow_add-base-then-last-first
-overflow_add-base-then-last-first c = let r = open_room _ _ _ _ _ _ _ c.loop-end.invariant.0 c.requires.5 in omega (arith, r, c.loop-end.invariant.2, c.?well-formed.1.1.1.1.1.1.1.1.1.1.1.1.0)
+overflow_add-base-then-last-first c = let r = open_room _ _ _ _ _ _ _ c.loop-end.invariant.0 c.requires.5 in omega (arith, r, c.loop-end.invariant.2, c.well_formed.1.1.1.1.1.1.1.1.1.1.1.1.0)
 
 pub wipe-requires-then-last-first : goal.wipe-requires-then-last-first
-wipe-requires-then-last-first c = let r = open_room _ _ _ _ _ _ _ c.loop-end.invariant.0 c.requires.5 in let z : c.loop-end.q + 1 - 1 ≡ c.loop-end.q = omega arith in (c.requires.6, c.requires.7, omega (arith, r, c.weigh-total.ensures.kept.long), c.weigh-total.ensures.is.1.1, rw z (weighed_only c.args.counts.now c.args.entries.now c.loop-end.q c.args.top c.args.width (window c.args.width c.loop-end.weights c.loop-end.base) _ (c.loop-end.base + c.args.width) c.weigh-total.ensures.is.0))
+wipe-requires-then-last-first c = let r = open_room _ _ _ _ _ _ _ c.loop-end.invariant.0 c.requires.5 in let z : c.loop-end.q + 1 - 1 ≡ c.loop-end.q = omega arith in (c.requires.6, c.requires.7, omega (arith, r, c.weigh-total.ensures.kept.long), c.weigh-total.ensures.none, rw z (weighed_only c.args.counts.now c.args.entries.now c.loop-end.q c.args.top c.args.width (window c.args.width c.loop-end.weights c.loop-end.base) _ (c.loop-end.base + c.args.width) c.weigh-total.ensures.is))
 
 pub loop-end-smaller-then-last-first : goal.loop-end-smaller-then-last-first
-loop-end-smaller-then-last-first c = let z = step_row _ _ _ _ _ c.in-Row.is c.step_at.ensures.within.0 in omega (arith, z.0, z.1)
+loop-end-smaller-then-last-first c = let z = step_row _ _ _ _ _ c.in-Row.is c.step_at.ensures.within in omega (arith, z.0, z.1)
 
 pub loop-end-preserved-then-last-first : goal.loop-end-preserved-then-last-first
-loop-end-preserved-then-last-first c = (open_on _ _ _ _ _ _ _ c.loop-end.invariant.0 c.if-end-q.false (sym c.out_of_levels.ensures ∙ c.if-out_of_levels.false) _ c.weigh-total.ensures.is.0 _ c.step_at.ensures.is c.in-Row.is c.step_at.ensures.within.0 _ (kept_then c.weigh-total.ensures.kept c.wipe-then-last-first.ensures.kept) c.if-last-first.true, learn_on _ _ _ _ c.loop-end.invariant.1 c.if-end-q.false (sym c.out_of_levels.ensures ∙ c.if-out_of_levels.false) _ c.step_at.ensures.within.1.0 c.in-Row.is (step_row _ _ _ _ _ c.in-Row.is c.step_at.ensures.within.0).0 c.if-last-first.true, c.wipe-then-last-first.ensures.kept.long ∙ (c.weigh-total.ensures.kept.long ∙ c.loop-end.invariant.2), c.loop-end.invariant.3, tidy_on _ _ _ _ c.loop-end.invariant.4 c.loop-end.invariant.0.based c.weigh-total.ensures.kept c.wipe-then-last-first.ensures)
+loop-end-preserved-then-last-first c = (open_on _ _ _ _ _ _ _ c.loop-end.invariant.0 c.if-end-q.false (sym c.out_of_levels.ensures ∙ c.if-out_of_levels.false) _ c.weigh-total.ensures.is _ c.step_at.ensures.is c.in-Row.is c.step_at.ensures.within _ (kept_then c.weigh-total.ensures.kept c.wipe-then-last-first.ensures.kept) c.if-last-first.true, learn_on _ _ _ _ c.loop-end.invariant.1 c.if-end-q.false (sym c.out_of_levels.ensures ∙ c.if-out_of_levels.false) _ c.step_at.ensures.decides c.in-Row.is (step_row _ _ _ _ _ c.in-Row.is c.step_at.ensures.within).0 c.if-last-first.true, c.wipe-then-last-first.ensures.kept.long ∙ (c.weigh-total.ensures.kept.long ∙ c.loop-end.invariant.2), c.loop-end.invariant.3, tidy_on _ _ _ _ c.loop-end.invariant.4 c.loop-end.invariant.0.based c.weigh-total.ensures.kept c.wipe-then-last-first.ensures)
 
 pub overflow_cast-firsts : goal.overflow_cast-firsts
 overflow_cast-firsts c = let z = open_in _ _ _ _ _ _ _ c.loop-end.invariant.0 c.if-end-q.false c.requires.0.short in omega (arith, z.2)
@@ -159,10 +156,10 @@ pub overflow_add-depth : goal.overflow_add-depth
 overflow_add-depth c = omega (arith, c.loop-end.invariant.0.shallow, c.requires.5)
 
 pub overflow_add-base : goal.overflow_add-base
-overflow_add-base c = let r = open_room _ _ _ _ _ _ _ c.loop-end.invariant.0 c.requires.5 in omega (arith, r, c.loop-end.invariant.2, c.?well-formed.1.1.1.1.1.1.1.1.1.1.1.1.0)
+overflow_add-base c = let r = open_room _ _ _ _ _ _ _ c.loop-end.invariant.0 c.requires.5 in omega (arith, r, c.loop-end.invariant.2, c.well_formed.1.1.1.1.1.1.1.1.1.1.1.1.0)
 
 pub loop-end-smaller : goal.loop-end-smaller
-loop-end-smaller c = let z = step_row _ _ _ _ _ c.in-Row.is c.step_at.ensures.within.0 in omega (arith, z.0, z.1)
+loop-end-smaller c = let z = step_row _ _ _ _ _ c.in-Row.is c.step_at.ensures.within in omega (arith, z.0, z.1)
 
 pub loop-end-preserved : goal.loop-end-preserved
-loop-end-preserved c = (open_down _ _ _ _ _ _ _ c.loop-end.invariant.0 c.if-end-q.false (sym c.out_of_levels.ensures ∙ c.if-out_of_levels.false) _ c.weigh-total.ensures.is.0 _ c.step_at.ensures.is c.in-Row.is c.step_at.ensures.within.0 _ c.weigh-total.ensures.kept refl c.requires.0.short c.requires.5 (deeper _ _ _ _ c.loop-end.invariant.0.shallow (sym c.out_of_levels.ensures ∙ c.if-out_of_levels.false) _ c.step_at.ensures.within.1.1 c.in-Row.is c.if-last-first.false), let z = open_in _ _ _ _ _ _ _ c.loop-end.invariant.0 c.if-end-q.false c.requires.0.short in learn_down _ _ _ _ c.loop-end.invariant.1 c.if-end-q.false (sym c.out_of_levels.ensures ∙ c.if-out_of_levels.false) _ c.step_at.ensures.within.1.0 c.in-Row.is (step_row _ _ _ _ _ c.in-Row.is c.step_at.ensures.within.0).0 c.loop-end.invariant.0.first_long c.loop-end.invariant.0.last_long c.requires.5 (deeper _ _ _ _ c.loop-end.invariant.0.shallow (sym c.out_of_levels.ensures ∙ c.if-out_of_levels.false) _ c.step_at.ensures.within.1.1 c.in-Row.is c.if-last-first.false) z.0 z.1, c.weigh-total.ensures.kept.long ∙ c.loop-end.invariant.2, c.loop-end.invariant.3, tidy_down _ _ _ _ c.loop-end.invariant.4 c.loop-end.invariant.0.based _ (omega (arith, c.loop-end.invariant.0.first_long, c.loop-end.invariant.0.shallow, c.requires.5)) c.weigh-total.ensures.kept c.weigh-total.ensures.is.1.1 (weighed_only c.args.counts.now c.args.entries.now c.loop-end.q c.args.top c.args.width (window c.args.width c.loop-end.weights c.loop-end.base) _ (c.loop-end.base + c.args.width) c.weigh-total.ensures.is.0))
+loop-end-preserved c = (open_down _ _ _ _ _ _ _ c.loop-end.invariant.0 c.if-end-q.false (sym c.out_of_levels.ensures ∙ c.if-out_of_levels.false) _ c.weigh-total.ensures.is _ c.step_at.ensures.is c.in-Row.is c.step_at.ensures.within _ c.weigh-total.ensures.kept refl c.requires.0.short c.requires.5 (deeper _ _ _ _ c.loop-end.invariant.0.shallow (sym c.out_of_levels.ensures ∙ c.if-out_of_levels.false) _ c.step_at.ensures.childless c.in-Row.is c.if-last-first.false), let z = open_in _ _ _ _ _ _ _ c.loop-end.invariant.0 c.if-end-q.false c.requires.0.short in learn_down _ _ _ _ c.loop-end.invariant.1 c.if-end-q.false (sym c.out_of_levels.ensures ∙ c.if-out_of_levels.false) _ c.step_at.ensures.decides c.in-Row.is (step_row _ _ _ _ _ c.in-Row.is c.step_at.ensures.within).0 c.loop-end.invariant.0.first_long c.loop-end.invariant.0.last_long c.requires.5 (deeper _ _ _ _ c.loop-end.invariant.0.shallow (sym c.out_of_levels.ensures ∙ c.if-out_of_levels.false) _ c.step_at.ensures.childless c.in-Row.is c.if-last-first.false) z.0 z.1, c.weigh-total.ensures.kept.long ∙ c.loop-end.invariant.2, c.loop-end.invariant.3, tidy_down _ _ _ _ c.loop-end.invariant.4 c.loop-end.invariant.0.based _ (omega (arith, c.loop-end.invariant.0.first_long, c.loop-end.invariant.0.shallow, c.requires.5)) c.weigh-total.ensures.kept c.weigh-total.ensures.none (weighed_only c.args.counts.now c.args.entries.now c.loop-end.q c.args.top c.args.width (window c.args.width c.loop-end.weights c.loop-end.base) _ (c.loop-end.base + c.args.width) c.weigh-total.ensures.is))

@@ -14,7 +14,7 @@ pub token-requires : goal.token-requires
 token-requires c = (c.requires.2, λ h. class_in _ _ c.requires.0 c.to_usize.ensures.0 c.requires.1 c.place_at-class.ensures h)
 
 pub returns-then-place-eq0 : goal.returns-then-place-eq0
-returns-then-place-eq0 c = let node = token_node c.args.source.now c.args.index.now _ c.args.tree.now _ (c.place_at-class.ensures ∙ ap (λ (j : ℕ). get_or c.args.index.now j 0) c.to_usize.ensures.0) c.production_place-place.ensures c.if-place-eq0.true in (token_goes _ _ _ _ _ _ _ _ _ _ _ c.requires.8 c.token.ensures.0 c.leaf.ensures node, (token_in _ _ _ _ _ _ _ _ c.requires.4 c.token.ensures.0 c.leaf.ensures c.token.ensures.1, (token_decides _ _ _ _ _ _ _ _ _ c.token.ensures.0 c.leaf.ensures node, leaf_childless _ _ _ _ _ c.token.ensures.0 c.leaf.ensures)))
+returns-then-place-eq0 c = let node = token_node c.args.source.now c.args.index.now _ c.args.tree.now _ (c.place_at-class.ensures ∙ ap (λ (j : ℕ). get_or c.args.index.now j 0) c.to_usize.ensures.0) c.production_place-place.ensures c.if-place-eq0.true in record { is = token_goes _ _ _ _ _ _ _ _ _ _ _ c.requires.8 c.token.ensures.0 c.leaf.ensures node; within = token_in _ _ _ _ _ _ _ _ c.requires.4 c.token.ensures.0 c.leaf.ensures c.token.ensures.1; decides = token_decides _ _ _ _ _ _ _ _ _ c.token.ensures.0 c.leaf.ensures node; childless = leaf_childless _ _ _ _ _ c.token.ensures.0 c.leaf.ensures }
 
 pub overflow_add-place : goal.overflow_add-place
 overflow_add-place c = let w = named_in Tree c.args.source.now c.args.index.now [] _ c.args.tree.now _ (place_tree _ _ refl c.to_usize.ensures.0 c.place_at-class.ensures) c.production_place-place.ensures c.if-place-eq0.false c.requires.0 c.requires.1 (λ i. omega (arith, c.type_inv.tree i)) in omega (arith, w.0, w.1)
@@ -35,4 +35,4 @@ pub overflow_add-result-3 : goal.overflow_add-result-3
 overflow_add-result-3 c = let w = named_in Tree c.args.source.now c.args.index.now [] _ c.args.tree.now _ (place_tree _ _ refl c.to_usize.ensures.0 c.place_at-class.ensures) c.production_place-place.ensures c.if-place-eq0.false c.requires.0 c.requires.1 (λ i. omega (arith, c.type_inv.tree i)) in omega (arith, c.pair_in.ensures.1, w.0, w.1)
 
 pub returns : goal.returns
-returns c = let node = named_node Tree c.args.source.now c.args.index.now [] _ c.args.tree.now _ (place_tree _ _ refl c.to_usize.ensures.0 c.place_at-class.ensures) c.production_place-place.ensures c.if-place-eq0.false refl (ap (λ (n : ℕ). c.production_place-place.result + 2 + n) c.pair_in.ensures.0) refl in (name_goes _ _ _ _ _ _ _ _ _ _ _ _ node c.?own_of_lem.ensures c.add.ensures c.requires.8 c.add-2.ensures, ((omega arith, named_end Tree c.args.source.now c.args.index.now [] _ c.args.tree.now _ (place_tree _ _ refl c.to_usize.ensures.0 c.place_at-class.ensures) c.production_place-place.ensures c.if-place-eq0.false refl, omega (arith, c.add.ensures), omega (arith, c.add-2.ensures), named_kinds Tree c.args.source.now c.args.index.now [] _ c.args.tree.now _ (place_tree _ _ refl c.to_usize.ensures.0 c.place_at-class.ensures) c.production_place-place.ensures c.if-place-eq0.false c.requires.0 c.requires.1 (λ i. omega (arith, c.type_inv.tree i)) refl (ap (λ (n : ℕ). c.production_place-place.result + 2 + n) c.pair_in.ensures.0)), (name_decides _ _ _ _ _ _ _ _ node, name_childless c.args.index.now _ c.args.tree.now _ _ _ c.to_usize.ensures.0 c.place_at-class.ensures c.production_place-place.ensures c.if-place-eq0.false)))
+returns c = let node = named_node Tree c.args.source.now c.args.index.now [] _ c.args.tree.now _ (place_tree _ _ refl c.to_usize.ensures.0 c.place_at-class.ensures) c.production_place-place.ensures c.if-place-eq0.false refl (ap (λ (n : ℕ). c.production_place-place.result + 2 + n) c.pair_in.ensures.0) refl in record { is = name_goes _ _ _ _ _ _ _ _ _ _ _ _ node c.own_of-own.ensures c.add.ensures c.requires.8 c.add-2.ensures; within = (omega arith, named_end Tree c.args.source.now c.args.index.now [] _ c.args.tree.now _ (place_tree _ _ refl c.to_usize.ensures.0 c.place_at-class.ensures) c.production_place-place.ensures c.if-place-eq0.false refl, omega (arith, c.add.ensures), omega (arith, c.add-2.ensures), named_kinds Tree c.args.source.now c.args.index.now [] _ c.args.tree.now _ (place_tree _ _ refl c.to_usize.ensures.0 c.place_at-class.ensures) c.production_place-place.ensures c.if-place-eq0.false c.requires.0 c.requires.1 (λ i. omega (arith, c.type_inv.tree i)) refl (ap (λ (n : ℕ). c.production_place-place.result + 2 + n) c.pair_in.ensures.0)); decides = name_decides _ _ _ _ _ _ _ _ node; childless = name_childless c.args.index.now _ c.args.tree.now _ _ _ c.to_usize.ensures.0 c.place_at-class.ensures c.production_place-place.ensures c.if-place-eq0.false }

@@ -10,4 +10,4 @@ pub add_entries-requires : goal.add_entries-requires
 add_entries-requires c = (c.requires.2, omega (arith, c.requires.3, c.add_one-total.ensures.1.kept.long), c.add_one-total.ensures.0, one_under c.args.counts.now c.args.entries.now c.args.q c.args.weights.now _ c.args.weights.now c.args.from c.args.width c.args.top c.requires.1 c.requires.2 (λ m l. c.requires.4 _ (omega arith)) c.count_in.ensures.0 c.add_one-total.ensures.1)
 
 pub returns : goal.returns
-returns c = (weigh_kept c.args.counts.now c.args.entries.now c.args.q c.args.weights.now _ _ c.args.from c.args.width c.args.top c.requires.1 c.requires.2 (λ m l. c.requires.4 _ (omega arith)) c.count_in.ensures.0 c.add_one-total.ensures.1 c.add_entries.ensures.1, (weigh_is c.args.counts.now c.args.entries.now c.args.q c.args.weights.now _ _ c.args.from c.args.width c.args.top c.requires.1 c.requires.2 (λ m l. c.requires.4 _ (omega arith)) c.count_in.ensures.0 c.add_one-total.ensures.1 c.add_entries.ensures.1, (weigh_sums c.args.counts.now c.args.entries.now c.args.q c.args.weights.now _ _ c.args.from c.args.width c.args.top c.requires.1 c.requires.2 (λ m l. c.requires.4 _ (omega arith)) c.count_in.ensures.0 c.add_one-total.ensures.1 c.add_entries.ensures.1, weigh_none c.args.counts.now c.args.entries.now c.args.q c.args.weights.now _ _ c.args.from c.args.width c.args.top c.requires.1 c.requires.2 (λ m l. c.requires.4 _ (omega arith)) c.count_in.ensures.0 c.add_one-total.ensures.1 c.add_entries.ensures.1 c.requires.4)))
+returns c = record { kept = weigh_kept c.args.counts.now c.args.entries.now c.args.q c.args.weights.now _ _ c.args.from c.args.width c.args.top c.requires.1 c.requires.2 (λ m l. c.requires.4 _ (omega arith)) c.count_in.ensures.0 c.add_one-total.ensures.1 c.add_entries.ensures.1; is = weigh_is c.args.counts.now c.args.entries.now c.args.q c.args.weights.now _ _ c.args.from c.args.width c.args.top c.requires.1 c.requires.2 (λ m l. c.requires.4 _ (omega arith)) c.count_in.ensures.0 c.add_one-total.ensures.1 c.add_entries.ensures.1; sums = weigh_sums c.args.counts.now c.args.entries.now c.args.q c.args.weights.now _ _ c.args.from c.args.width c.args.top c.requires.1 c.requires.2 (λ m l. c.requires.4 _ (omega arith)) c.count_in.ensures.0 c.add_one-total.ensures.1 c.add_entries.ensures.1; none = weigh_none c.args.counts.now c.args.entries.now c.args.q c.args.weights.now _ _ c.args.from c.args.width c.args.top c.requires.1 c.requires.2 (λ m l. c.requires.4 _ (omega arith)) c.count_in.ensures.0 c.add_one-total.ensures.1 c.add_entries.ensures.1 c.requires.4 }

@@ -3,4 +3,4 @@ use borrow.Author.Rules.{rules}
 use Rattle.run_measure.proofs.weigh.wipe_one.Goals as goal
 
 pub returns : goal.returns
-returns c = wipe_set _ _ _ _ c.requires c.if-width-number.false
+returns c = let z = wipe_set _ _ _ _ c.requires c.if-width-number.false in record { kept = z.0; less = z.1.0; none = z.1.1 }

@@ -1,0 +1,18 @@
+use native.Mathlib.Omega.{arith}
+use borrow.Author.Rules.{rules}
+use Prim.Native.Nat.{◌-◌, ◌≤◌}
+use mathlib.Core.Path.{◌≡◌, refl, ◌∙◌}
+use lib.ListN.{length}
+use Rattle.format_translation.specs.Translation.{Translation}
+use Rattle.format_translation.proofs.Whole.{item_long}
+use Rattle.reduce_join.specs.Inner.Joining.{Joining, joined_field}
+use Rattle.reduce_join.proofs.Operands.{reach_asks, number_asks}
+use Rattle.reduce_join.proofs.Turns.{item_number, Writing, writing_start, writing_full, writing_next, writing_done, fields_from, fields_all, fields_next, fields_end}
+use Rattle.reduce_join.proofs.body.join_item.Given as goal
+
+abbrev pub invariant-loop-j : goal.invariant-loop-j
+invariant-loop-j l = (l.at ≤ length l.out) × (length l.out ≡ length l.initial.out)
+    × ((f g : Translation) → Joining l.table l.first_uses l.second_body l.second_uses l.limit f g → Writing (joined_field f g l.second_body l.p) (fields_from f g l.second_body l.p l.limit l.j) l.initial.out l.out l.n l.at)
+
+abbrev pub decreases-loop-j : goal.decreases-loop-j
+decreases-loop-j l = l.limit - l.j

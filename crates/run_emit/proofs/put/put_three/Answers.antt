@@ -1,0 +1,17 @@
+use native.Mathlib.Omega.{arith}
+use Prim.Native.Nat.{◌+◌}
+use Rattle.run_emit.proofs.Puts.{in_set_lem, in_two, three_full, three_put}
+use borrow.Author.Rules.{rules}
+use Rattle.run_emit.proofs.put.put_three.Goals as goal
+
+pub returns-then-output-pos : goal.returns-then-output-pos
+returns-then-output-pos c = three_full _ _ _ _ _ c.if-output-pos.true
+
+pub bounds-output-pos-2 : goal.bounds-output-pos-2
+bounds-output-pos-2 c = in_set_lem c.args.output.now c.args.pos c.args.x (c.args.pos + 1) (omega (arith, c.requires, c.if-output-pos.false))
+
+pub bounds-output-pos-3 : goal.bounds-output-pos-3
+bounds-output-pos-3 c = in_two c.args.output.now c.args.pos c.args.x (c.args.pos + 1) c.args.y (c.args.pos + 2) (omega (arith, c.requires, c.if-output-pos.false))
+
+pub returns : goal.returns
+returns c = three_put _ _ _ _ _ c.if-output-pos.false

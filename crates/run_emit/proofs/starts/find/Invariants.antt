@@ -1,0 +1,18 @@
+use Prim.Native.Nat.{ℕ, ◌-◌, ◌≤◌}
+use mathlib.Core.List.{List}
+use mathlib.Core.Logic.{⊎_elim}
+use native.Mathlib.Omega.{arith}
+use borrow.Author.Rules.{rules}
+use lib.ListN.{get_or}
+use Rattle.tree_reader.specs.Code.{Codes}
+use Rattle.tree_reader.specs.Typing.{Uses}
+use Rattle.format_translation.specs.Translation.{Translation}
+use Rattle.run_emit.specs.Inner.Runs.{FindAsks}
+use Rattle.run_emit.proofs.Ends.{nth, Reached, find_inside, reached_none, reached_skip, reached_known, reached_more, reached_done}
+use Rattle.run_emit.proofs.starts.find.Given as goal
+
+abbrev pub invariant-loop-i : goal.invariant-loop-i
+invariant-loop-i l = (l.i ≤ l.j) × ((f : Translation) (given : Uses) (ts : Codes) (ks : List ℕ) → FindAsks l.syntax l.table l.input l.ends l.initial.node l.j f given ts ks → Reached l.syntax l.table l.input l.initial.node l.node l.p l.i f given ts ks)
+
+abbrev pub decreases-loop-i : goal.decreases-loop-i
+decreases-loop-i l = l.j - l.i
