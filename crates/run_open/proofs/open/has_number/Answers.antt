@@ -1,0 +1,7 @@
+use native.Mathlib.Omega.{arith}
+use Rattle.run_open.proofs.Opening.{number_is}
+use borrow.Author.Rules.{rules}
+use Rattle.run_open.proofs.open.has_number.Goals as goal
+
+pub returns : goal.returns
+returns c = λ f w. number_is f _ w c.requires (omega (arith, c.to_usize-2.ensures)) c.to_usize.ensures.0 c.to_usize-2.ensures.0
