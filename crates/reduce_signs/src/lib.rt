@@ -1,5 +1,6 @@
 // The signs of terms: which term a sign begins, and what it does with the values of its operands.
 #![tactic(auto)]
+
 pub mod apply;
 pub mod evaluated;
 pub mod forms;

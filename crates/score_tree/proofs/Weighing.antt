@@ -56,12 +56,12 @@ unfolding Small
 factor_near fig i n = rw (factor_back fig i n) (n i)
 
 -- Where the loop of `weigh` stands at an end: the scores from i on are added.
-pub record Down (c : ℤ) (fig : List ℤ) (q : ℕ) (same other : List ℤ) (count total i : ℕ) : Type 0 where
+pub record Down (c : ℤ) (fig : List ℤ) (q : ℕ) (same other : List ℤ) (count : ℕ) (total : ℤ) (i : ℕ) : Type 0 where
   pub inside : i ≤ count
-  pub near : nat_abs (to_z w64 total) ≤ 32768 + (count - i) * 32768000000000
-  pub is : to_z w64 total ≡ c +ℤ weighed fig q same other i (count - i)
+  pub near : nat_abs total ≤ 32768 + (count - i) * 32768000000000
+  pub is : total ≡ c +ℤ weighed fig q same other i (count - i)
 
-pub down_begin : (c : ℤ) (fig : List ℤ) (q : ℕ) (same other : List ℤ) (count total : ℕ) → to_z w64 total ≡ c → nat_abs c ≤ 32768
+pub down_begin : (c : ℤ) (fig : List ℤ) (q : ℕ) (same other : List ℤ) (count : ℕ) (total : ℤ) → total ≡ c → nat_abs c ≤ 32768
     → Down c fig q same other count total count
 unfolding weighed
 down_begin c fig q same other count total e h =
@@ -72,14 +72,14 @@ down_begin c fig q same other count total e h =
       is = e ∙ (sym (+ℤ_idr c) ∙ ap (λ (n : ℕ). c +ℤ weighed fig q same other count n) (sym d));
     }
 
-module _ {c : ℤ} {fig : List ℤ} {q : ℕ} {same other : List ℤ} {count total i : ℕ} (v : Down c fig q same other count total i) where
-  pub down_small : count ≤ 8 → nat_abs (to_z w64 total) ≤ 40000000000000000
+module _ {c : ℤ} {fig : List ℤ} {q : ℕ} {same other : List ℤ} {count : ℕ} {total : ℤ} {i : ℕ} (v : Down c fig q same other count total i) where
+  pub down_small : count ≤ 8 → nat_abs total ≤ 40000000000000000
   down_small k = omega (arith, v.near)
 
   -- The next score is added: f, x and y are what the machine reads of the factor and the two ends of the operand.
-  pub down_next : 0 < i → Small fig → AllNear same → AllNear other → (f x y : ℤ) (next : ℕ)
+  pub down_next : 0 < i → Small fig → AllNear same → AllNear other → (f x y next : ℤ)
       → f ≡ get_or fig (q + (i - 1)) (pos 0) → x ≡ get_or same (i - 1) (pos 0) → y ≡ get_or other (i - 1) (pos 0)
-      → to_z w64 next ≡ to_z w64 total +ℤ f *ℤ turned f x y → Down c fig q same other count next (i - 1)
+      → next ≡ total +ℤ f *ℤ turned f x y → Down c fig q same other count next (i - 1)
   unfolding Small AllNear weighed
   down_next h small near far f x y next ef ex ey en =
       let m = v.inside in
@@ -92,9 +92,9 @@ module _ {c : ℤ} {fig : List ℤ} {q : ℕ} {same other : List ℤ} {count tot
       let product : f *ℤ turned f x y ≡ g *ℤ t = λ k. ef k *ℤ end k in
       let one : weighed fig q same other (i - 1) (count - (i - 1)) ≡ g *ℤ t +ℤ r =
       ap (weighed fig q same other (i - 1)) n ∙ ap (λ (k : ℕ). g *ℤ t +ℤ weighed fig q same other k (count - i)) j in
-      let bound : nat_abs (to_z w64 total +ℤ g *ℤ t) ≤ 32768 + (count - i) * 32768000000000 + 32768000000000 =
-      add_within (to_z w64 total) (g *ℤ t) _ 32768000000000 v.near (mul_within g t 32768 1000000000 (small (q + (i - 1))) (turned_near g _ _ (near (i - 1)) (far (i - 1)))) in
-      let sum : to_z w64 next ≡ to_z w64 total +ℤ g *ℤ t = en ∙ ap (λ (k : ℤ). to_z w64 total +ℤ k) product in
+      let bound : nat_abs (total +ℤ g *ℤ t) ≤ 32768 + (count - i) * 32768000000000 + 32768000000000 =
+      add_within total (g *ℤ t) _ 32768000000000 v.near (mul_within g t 32768 1000000000 (small (q + (i - 1))) (turned_near g _ _ (near (i - 1)) (far (i - 1)))) in
+      let sum : next ≡ total +ℤ g *ℤ t = en ∙ ap (λ (k : ℤ). total +ℤ k) product in
       record {
         inside = omega arith;
         near = rw sum (omega (arith, bound));
@@ -104,7 +104,7 @@ module _ {c : ℤ} {fig : List ℤ} {q : ℕ} {same other : List ℤ} {count tot
             ∙ (+ℤ_assoc c r (g *ℤ t) ∙ (ap (λ (k : ℤ). c +ℤ k) (+ℤ_comm r (g *ℤ t)) ∙ ap (λ (k : ℤ). c +ℤ k) (sym one))));
       }
 
-  pub down_end : i ≤ 0 → (d : ℤ) → c ≡ d → to_z w64 total ≡ d +ℤ weighed fig q same other 0 count
+  pub down_end : i ≤ 0 → (d : ℤ) → c ≡ d → total ≡ d +ℤ weighed fig q same other 0 count
   down_end h d e =
       let z : i ≡ 0 = omega arith in
       let n : count - 0 ≡ count = omega arith in

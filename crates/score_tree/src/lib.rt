@@ -1,5 +1,6 @@
 // Load tables, the linear form of a code, and the score of a plan.
 #![tactic(auto)]
+
 pub mod figures;
 pub mod form;
 pub mod plan;

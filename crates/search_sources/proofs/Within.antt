@@ -1,7 +1,7 @@
 -- The trees within the levels are exactly the legal ones.
 use Prim.Native.Nat.{ℕ, zero, suc, max, ◌+◌, ◌-◌, ◌%◌, ◌≤◌, ◌<◌}
 use mathlib.Core.Path.{◌≡◌, refl, ap, sym, ◌∙◌}
-use mathlib.Core.Logic.{inl}
+use mathlib.Core.Logic.{inl, inr}
 use mathlib.Core.Bool.{Bool, true, false, ◌&&◌}
 use mathlib.Core.List.{List, [], ◌∷◌, map}
 use mathlib.Core.Option.{Option, none, some}
@@ -51,6 +51,7 @@ module _ (l : Language) (n : ℕ) (trees : ℕ → List Code) (sound : (k : ℕ)
       let w = h.1 in
       let v = g.1 in
       rw y.2 (typed_cons h.0 g.0, omega arith)
+  rows_legal [] s (inr x'') = elim x'' [ ]
 
   named_legal : (k p : ℕ) (o : Option (List ℕ)) (t : Code) → arguments_of l k p ≡ o → Mem t (trees_named trees k p o) → Typed l [] t k × (levels t ≤ suc n)
   unfolding trees_named levels

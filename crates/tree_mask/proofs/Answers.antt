@@ -131,4 +131,4 @@ module _ (s : List ℕ) (root : ℕ) (c : List ℕ) {on-language on-card low : O
         let w = legal h in
         let d = opened w.language w.is in
         let t = tree_of_lem w.language root b (read tree w.language [] tree_levels root b) d.known refl in
-        rw (d.alone.is, w.card-is, t) (g w.language w.card d.alone.indexed (holds w.card w.card-is))
+        rw (d.alone.is, w.card_is, t) (g w.language w.card d.alone.indexed (holds w.card w.card_is))

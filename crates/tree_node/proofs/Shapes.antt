@@ -54,7 +54,7 @@ no_use (suc i) j e = none_some e
 
 module _ (x s b : List ℕ) (at k : ℕ) (l : Language) (t : Code) (h : There x s b at k l t) where
   small : k < 32
-  small = in_below s k l h.index-of.indexed.entries h.lies.known
+  small = in_below s k l h.index_of.indexed.entries h.lies.known
 
   module _ {j class : ℕ} (ej : j ≡ k) (ec : class ≡ get_or x j 0) where
     class_is : class ≡ get_or x k 0
@@ -64,7 +64,7 @@ module _ (x s b : List ℕ) (at k : ℕ) (l : Language) (t : Code) (h : There x 
     is_token : (class ≡ 0 → ⊥) → (u : Code) → Typed l [] u k → (v : ℕ) × (u ≡ token v)
     is_token c u (typed_token {v = v} e w) = (v, refl)
     is_token c u (typed_node {p = p} {ks = ks} e w) =
-        none_some (sym (apart l h.index-of.apart k p ks e) ∙ class_known s x l h.index-of.indexed k small class class_is c)
+        none_some (sym (apart l h.index_of.apart k p ks e) ∙ class_known s x l h.index_of.indexed k small class class_is c)
     is_token c u (typed_argument {i = i} {j = m} e) = no_use i m e
 
     pub token_shown : (class ≡ 0 → ⊥) → Says (node_shown (value (block_of at k t))) (record { outcome = Accepted 0; kind = k; name = 256; arguments = 0 })
@@ -73,7 +73,7 @@ module _ (x s b : List ℕ) (at k : ℕ) (l : Language) (t : Code) (h : There x 
         rw y.1 (record { outcome = refl; kind = refl; name = refl; arguments = refl })
 
     is_production : class ≡ 0 → (u : Code) → Typed l [] u k → (p : ℕ) × (ts : Codes) × (u ≡ node k p ts)
-    is_production c u (typed_token e w) = none_some (sym (class_none s x l h.index-of.indexed k small class class_is c) ∙ e)
+    is_production c u (typed_token e w) = none_some (sym (class_none s x l h.index_of.indexed k small class class_is c) ∙ e)
     is_production c u (typed_node {p = p} {t = ts} e w) = (p, ts, refl)
     is_production c u (typed_argument {i = i} {j = m} e) = no_use i m e
 
@@ -111,5 +111,5 @@ module _ (x s b : List ℕ) (at k : ℕ) (l : Language) (t : Code) (h : There x 
           (λ z.
           let i : q < e = leb-false e q z in
           let j = o.kinds (e - 1) (omega arith) (omega arith) in
-          let m = h.index-of.indexed.sound.short in
+          let m = h.index_of.indexed.sound.short in
           omega arith)

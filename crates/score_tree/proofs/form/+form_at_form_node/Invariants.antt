@@ -1,0 +1,33 @@
+use Prim.Native.Nat.{◌+◌, ◌-◌, ◌*◌}
+use mathlib.Core.Path.{refl, ap, ◌∙◌}
+use mathlib.Core.List.{List}
+use native.Mathlib.Omega.{arith}
+use lib.ListN.{length, get_or}
+use mir.Syntax.{w64}
+use mir.Facts.{to_z-of_z}
+use borrow.Author.Rules.{rules}
+use borrow.Author.Tests.{not-true, not-false}
+use Rattle.format_language.specs.Language.{Language}
+use Rattle.tree_reader.specs.Code.{node, Codes}
+use Rattle.tree_reader.specs.Typing.{Uses}
+use Rattle.score_tree.specs.Linear.{Loads}
+use Rattle.score_tree.specs.Inner.Terms.{all_bytes, NodeAsks}
+use Rattle.score_tree.proofs.Integers.{told}
+use Rattle.score_tree.proofs.Leaves.{asked_as}
+use Rattle.score_tree.proofs.Terms.{term_in, leaf_in, leaf_adds, name_in, node_left, node_asked, node_adds}
+use Rattle.score_tree.proofs.Walking.{Walking, adds_outside, node_in, figure_near, walk_begin, row_asked, row_in, operand, operand_asks, walk_outside, walk_next, walk_wide, walk_end}
+use Prim.Native.Nat.{ℕ, ◌<◌}
+use Rattle.score_tree.proofs.form.+form_at_form_node.Given as goal
+
+abbrev pub decreases-form_at : goal.decreases-form_at
+decreases-form_at l = 2 * l.left
+
+abbrev pub decreases-form_node : goal.decreases-form_node
+decreases-form_node l = 2 * l.left + 1
+
+abbrev pub invariant-form_node-loop-q : goal.invariant-form_node-loop-q
+invariant-form_node-loop-q here = (l : Language) (given : Uses) (w : Loads) (k p : ℕ) (ts : Codes) (ks : List ℕ) → NodeAsks here.language here.index here.figures here.production here.bytes here.at here.left l given w k p ts ks
+    → Walking here.language here.figures here.bytes l given w (node k p ts) ts here.stop (here.at + length (all_bytes ts)) here.left here.count here.row here.q here.to
+
+abbrev pub decreases-form_node-loop-q : goal.decreases-form_node-loop-q
+decreases-form_node-loop-q l = l.stop - l.q

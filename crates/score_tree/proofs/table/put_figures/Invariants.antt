@@ -1,0 +1,16 @@
+use Prim.Native.Nat.{◌+◌, ◌-◌, ◌*◌, ◌≤◌}
+use mathlib.Core.Path.{◌≡◌, refl, sym, ap, ◌∙◌}
+use native.Mathlib.Omega.{arith}
+use lib.ListN.{length}
+use mir.Syntax.{w32}
+use Rattle.score_tree.specs.Inner.Kept.{Put}
+use Rattle.score_tree.proofs.Integers.{told}
+use Rattle.score_tree.proofs.Putting.{put_none, put_next, put_all}
+use borrow.Author.Rules.{rules}
+use Rattle.score_tree.proofs.table.put_figures.Given as goal
+
+abbrev pub invariant-loop-i : goal.invariant-loop-i
+invariant-loop-i l = Put l.table l.from l.initial.figures l.figures l.at l.i × (l.i ≤ l.count)
+
+abbrev pub decreases-loop-i : goal.decreases-loop-i
+decreases-loop-i l = l.count - l.i

@@ -1,0 +1,26 @@
+use Prim.Native.Nat.{◌+◌, ◌-◌, ◌*◌}
+use mathlib.Core.Path.{◌≡◌, refl, sym, ap, ◌∙◌}
+use mathlib.Core.List.{List}
+use native.Mathlib.Omega.{arith}
+use borrow.Author.Rules.{rules}
+use borrow.Author.Tests.{not-true, not-false}
+use Rattle.format_language.specs.Language.{Language}
+use Rattle.score_tree.specs.Linear.{Loads}
+use Rattle.score_tree.specs.Inner.Spreads.{read_spread}
+use Rattle.score_tree.specs.Inner.Walks.{RowAsks}
+use Rattle.score_tree.proofs.Plans.{Going, ends_back, node_in, number_is, going_begin, row_in, kind_in, going_deep, going_broken, going_outside, going_next, going_out, going_end, class_there, class_said, deep_said, end_said, unknown_said, node_asked, node_said}
+use Prim.Native.Nat.{ℕ, ◌<◌}
+use Rattle.score_tree.proofs.walk.+ends_at_node_ends.Given as goal
+
+abbrev pub decreases-ends_at : goal.decreases-ends_at
+decreases-ends_at l = 2 * l.levels
+
+abbrev pub decreases-node_ends : goal.decreases-node_ends
+decreases-node_ends l = 2 * l.levels + 1
+
+abbrev pub invariant-node_ends-loop-i : goal.invariant-node_ends-loop-i
+invariant-node_ends-loop-i here = (l : Language) (w : Loads) (k p : ℕ) (ks : List ℕ) → RowAsks here.language here.index here.figures here.production here.bytes here.at l w k p ks
+    → Going (read_spread here.width l w here.levels) here.language here.production here.bytes here.at ks here.count here.least here.greatest here.within here.i here.to
+
+abbrev pub decreases-node_ends-loop-i : goal.decreases-node_ends-loop-i
+decreases-node_ends-loop-i l = l.count - l.i

@@ -1,0 +1,16 @@
+use mathlib.Core.Path.{sym, ap, ◌∙◌}
+use mir.Facts.{to_z-of_z}
+use borrow.Author.Tests.{not-true, not-false}
+use Rattle.score_tree.specs.Figures.{is_score}
+use Rattle.score_tree.proofs.Plans.{least_out, greatest_out, both_in}
+use borrow.Author.Rules.{rules}
+use Rattle.score_tree.proofs.walk.finished.Goals as goal
+
+pub returns-then-not-is_score : goal.returns-then-not-is_score
+returns-then-not-is_score c = (least_out _ _ _ (ap is_score (sym (to_z-of_z c.ranges.least)) ∙ (sym c.is_score.ensures ∙ c.if-not-is_score.true)), tt)
+
+pub returns-then-not-is_score-2 : goal.returns-then-not-is_score-2
+returns-then-not-is_score-2 c = (greatest_out _ _ _ (ap is_score (sym (to_z-of_z c.ranges.least)) ∙ (sym c.is_score.ensures ∙ c.if-not-is_score.false)) (ap is_score (sym (to_z-of_z c.ranges.greatest)) ∙ (sym c.is_score-2.ensures ∙ c.if-not-is_score-2.true)), tt)
+
+pub returns : goal.returns
+returns c = both_in _ _ _ _ _ (to_z-of_z c.ranges.least) (to_z-of_z c.ranges.greatest) (ap is_score (sym (to_z-of_z c.ranges.least)) ∙ (sym c.is_score.ensures ∙ c.if-not-is_score.false)) (ap is_score (sym (to_z-of_z c.ranges.greatest)) ∙ (sym c.is_score-2.ensures ∙ c.if-not-is_score-2.false))
