@@ -12,7 +12,7 @@ use lib.Seq.{slice, get_or-take, get_or-drop}
 use borrow.Author.Tests.{ne_eqb}
 use Rattle.format_fields.specs.Lists.{is_some}
 use Rattle.format_fields.specs.Inner.Places.{field_end, places_from, places}
-use Rattle.format_fields.proofs.Truth.{Mem, none_some, false_true, some_is, is_some_lem, mem_map, mem_append}
+use Rattle.format_fields.proofs.Truth.{Mem, none_some, false_true, mem_map, mem_append}
 use Rattle.format_fields.proofs.Codec.{Bytes, bytes_from}
 use Rattle.format_fields.proofs.Places.{places_next}
 use Rattle.format_language.specs.Language.{Language, arguments_of}
@@ -22,17 +22,16 @@ use Rattle.tree_reader.specs.declared.node.Syntax.TheVariants as Syntaxes
 use Rattle.tree_reader.proofs.Lookup.{zeros}
 use Rattle.tree_reader.proofs.Larger.{read_keeps, keeps}
 use Rattle.tree_reader.proofs.Sound.{read_done}
-use Rattle.format_translation.specs.Translation.{Item, mapping, clause, Translation, number_of, mapping_of, mapped}
+use Rattle.format_translation.specs.Translation.{mapping, clause, Translation, number_of, mapping_of, mapped}
 use Rattle.format_translation.specs.Running.{uses_of, read_clause, clauses_of}
 use Rattle.format_translation.specs.Inner.Items.{item_whole, item_at, ItemFacts, plain_mapping, plain_clause, numbered_mapping_lem, numbered_clause_lem, is_clause_tag}
 use Rattle.format_translation.proofs.Items.{item_facts, clause_is, numbered_clause_is, holds_items}
-use Rattle.format_translation.proofs.Lookup.{mapping_mem, mem_mapping, mem_mapped}
+use Rattle.format_translation.proofs.Lookup.{mapping_mem, mem_mapping}
 use Rattle.format_translation.proofs.Preserved.{use_kind}
 use Rattle.format_translation.proofs.Found.{cut_is}
 use Rattle.format_translation.proofs.Fitting.{clause_code}
 use Rattle.run_table.proofs.Standing.{drop_stands}
 use Rattle.run_emit.specs.Inner.Runs.{Right, TermAsks}
-use Rattle.reduce_operators.specs.Operators.{numbers_low}
 use Rattle.reduce_operators.specs.Inner.Paired.{reached}
 use Rattle.reduce_operators.proofs.Proper.{Sound, proper_below}
 use Rattle.reduce_operators.proofs.Accepted.{accepted_good}

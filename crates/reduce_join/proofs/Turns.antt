@@ -1,12 +1,11 @@
 -- The items of the second's body, joined one after the other: a law for each return and turn.
 use Prim.Native.Nat.{ℕ, zero, suc, ◌+◌, ◌-◌, ◌*◌, ◌%◌, ◌<◌, ◌≤◌}
 use mathlib.Core.Path.{◌≡◌, refl, sym, ap, subst, ◌∙◌}
-use mathlib.Core.Bool.{Bool, true, false, cond, not}
-use mathlib.Core.List.{List, [], ◌∷◌, ◌++◌, map, append-nil, append_assoc}
+use mathlib.Core.Bool.{Bool, true, false, cond}
+use mathlib.Core.List.{List, [], ◌∷◌, ◌++◌, map, append_assoc}
 use mathlib.Core.Option
 use mathlib.Core.Option.{Option, none, some}
 use native.Mathlib.Omega.{arith}
-use native.Mathlib.Numerals.{add-one}
 use lib.ListN.{length, get_or, replicate, length-append}
 use lib.Dec.{eqb}
 use borrow.Author.Tests.{lt-ltb, eqb-true, leb-true}
@@ -28,8 +27,8 @@ use Rattle.tree_reader.specs.declared.node.Syntax.TheVariants.{Code}
 use Rattle.run_emit.specs.Inner.Runs.{TermAsks}
 use Rattle.format_translation.specs.Translation.{Item, mapping, clause, Translation, plain_key, number_of, item_key, mapping_of, mapped}
 use Rattle.format_translation.specs.TranslationFile.{item_field}
-use Rattle.format_translation.specs.Running.{run, clauses_of, transform}
-use Rattle.format_translation.specs.Inner.Items.{item_whole, item_good, item_at, mapping_whole, numbered_mapping_whole, IsMapping, IsNumberedMapping, ItemFacts, plain_mapping, plain_clause, numbered_mapping_lem, numbered_clause_lem, is_clause_tag}
+use Rattle.format_translation.specs.Running.{clauses_of, transform}
+use Rattle.format_translation.specs.Inner.Items.{item_whole, item_good, item_at, mapping_whole, numbered_mapping_whole, ItemFacts, plain_mapping, plain_clause, numbered_mapping_lem, numbered_clause_lem, is_clause_tag}
 use Rattle.format_translation.specs.Inner.ItemIndex.{Mapped}
 use Rattle.format_translation.proofs.Items.{item_facts, mapping_is, clause_is, numbered_mapping_is, numbered_clause_is, key_is, holds_items}
 use Rattle.reduce_operators.specs.Operators.{join_item, joined}

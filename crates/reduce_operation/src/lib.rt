@@ -1,3 +1,4 @@
 // The operation reduce.
 #![tactic(auto)]
+
 pub mod reduce;

@@ -1,3 +1,4 @@
 // The evaluation of terms over a store.
 #![tactic(auto)]
+
 pub mod terms;

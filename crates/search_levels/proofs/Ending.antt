@@ -23,15 +23,15 @@ module _ (index s b : List ℕ) (at k : ℕ) (l : Language) (t : Code) (h : Ther
   -- What the reader asks for.
   pub there_ready : Ready index s k b at
   there_ready = record {
-    sound = h.index-of.indexed.sound;
-    kind = in_below s k l h.index-of.indexed.entries h.lies.known;
+    sound = h.index_of.indexed.sound;
+    kind = in_below s k l h.index_of.indexed.entries h.lies.known;
     inside = h.lies.inside;
   }
 
   read_is : Meant.read Meant.tree l [] tree_levels k (drop at b) ≡ Meant.done t h.lies.rest
   read_is =
       ap (Meant.read Meant.tree l [] tree_levels k) h.lies.is
-      ∙ round l (apart l h.index-of.apart) h.lies.typed as_tree tree_levels h.lies.rest h.lies.within
+      ∙ round l (apart l h.index_of.apart) h.lies.typed as_tree tree_levels h.lies.rest h.lies.within
 
   module _ (f : Read) (ef : rest_at b f ≡ rest_of (Meant.read Meant.tree l [] 64 k (drop at b))) where
     left : rest_at b f ≡ rest h.lies.rest

@@ -37,7 +37,7 @@ ends_kept x s b before after k at end l u h e w t = record { is = λ p j v q d. 
     go p j v q d (inl z) = rw z.1 (t.is p j v q (sym z.0 ∙ d))
     go p j v q d (inr z) =
         let y : Lies l b at k v = rw (z.0, sym d ∙ z.1) at q in
-        let o : u ≡ v = lies_one l (apart l h.index-of.apart) b k at u v h.lies y in
+        let o : u ≡ v = lies_one l (apart l h.index_of.apart) b k at u v h.lies y in
         inr (z.2 ∙ (e ∙ (λ i. sym z.0 i + length (write tree (o i)))))
 
 -- What is left of the row, which has at most n levels, and what was kept of the part before it.

@@ -75,6 +75,7 @@ lower key n (z ∷ l) x r f y (inl e) =
     let g = from_mem key (l ++ (x ∷ r)) f.1 m in
     rw e (omega arith)
 lower key n (z ∷ l) x r f y (inr m) = lower key (suc (key z)) l x r f.1 y m
+lower key n [] x r f y x4 = elim x4 [ ]
 
 higher : (key : ℕ → ℕ) (n : ℕ) (l : List ℕ) (x : ℕ) (r : List ℕ) → From key n (l ++ (x ∷ r)) → From key (suc (key x)) r
 higher key n [] x r f = f.1

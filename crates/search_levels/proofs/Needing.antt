@@ -49,8 +49,8 @@ unfolding field_end
 class_inside s class h c = go c.size
   where
     go : (pair_at s (class - 1 + 1) ≡ 5) ⊎ (pair_at s (class - 1 + 1) ≡ 7) → class + 4 < length s
-    go (inl e) = let x = c.ranges in omega arith
-    go (inr e) = let x = c.ranges in omega arith
+    go (inl e) = let x = c.fits in omega arith
+    go (inr e) = let x = c.fits in omega arith
 
 module _ (source : List ℕ) (class : ℕ) (bytes : List ℕ) (at : ℕ) where
   pub value_low : {r : ℕ} → length bytes ≤ at → r ≡ pair_at source (class + 3) → r ≡ value_at source class bytes at
@@ -81,7 +81,7 @@ module _ (table source target places kinds bytes memory free : List ℕ) (k at :
   source_apart = apart l h.setting.apart
 
   pub target_apart : Apart f.target
-  target_apart = apart f.target h.setting.targeted.target-index.apart
+  target_apart = apart f.target h.setting.targeted.target_index.apart
 
   pub recall_true : (m : ℕ) → m ≤ 16 → {r : ℕ} → r ≡ recalled m (byte_for memory free (length bytes) k at) → (r ≡ 255 → ⊥) → Needs l clauses m k g r
   recall_true m few e n =
@@ -90,7 +90,7 @@ module _ (table source target places kinds bytes memory free : List ℕ) (k at :
   -- A class.
   module _ (class : ℕ) (place : class ≡ get_or table k 0) where
     range_is : range_of l k ≡ range_before source class
-    range_is = h.setting.source-index.range k h.kind ∙ ap (range_before source) (sym place)
+    range_is = h.setting.source_index.range k h.kind ∙ ap (range_before source) (sym place)
 
     pub plain : class ≡ 0 → range_of l k ≡ none
     plain e = range_is ∙ ap (range_before source) e
@@ -100,7 +100,7 @@ module _ (table source target places kinds bytes memory free : List ℕ) (k at :
       class_positive = omega arith
 
       pub class_whole : IsClass source (class - 1)
-      class_whole = rw place (h.setting.source-index.sound.class k h.kind (let z = class_positive in omega arith))
+      class_whole = rw place (h.setting.source_index.sound.class k h.kind (let z = class_positive in omega arith))
 
       pub the_range : range_of l k ≡ some (class_range source (class - 1))
       the_range = let e : class ≡ suc (class - 1) = omega arith in range_is ∙ ap (range_before source) e
@@ -151,7 +151,7 @@ module _ (table source target places kinds bytes memory free : List ℕ) (k at :
     where
       none_named : (q x : ℕ) (s : Codes) → low ≤ q → q < high → Fits l clauses (suc x) k g (node k q s) → ⊥
       none_named q x s i j w =
-          let e : arguments_of l k q ≡ none = h.setting.source-index.arguments k q h.kind (omega arith) ∙ ap (arguments_before source) (a.none q i j) in
+          let e : arguments_of l k q ≡ none = h.setting.source_index.arguments k q h.kind (omega arith) ∙ ap (arguments_before source) (a.none q i j) in
           let z = (needs-unknown l clauses x k q g e).least x q s (omega arith) (omega arith) (omega arith) w in
           omega arith
 
@@ -209,7 +209,7 @@ module _ (table source target places kinds bytes memory free : List ℕ) (k at :
   key_small = let y = h.kind in omega arith
 
   known_before : arguments_of f.source k p ≡ arguments_before source (get_or table (production_key k p) 0)
-  known_before = h.setting.source-index.arguments k p h.kind narrow
+  known_before = h.setting.source_index.arguments k p h.kind narrow
 
   pub name_known : Named table k p → (ks : List ℕ) × (arguments_of f.source k p ≡ some ks)
   name_known n = let z = n.there narrow in go (get_or table (production_key k p) 0) known_before (λ e. omega arith)

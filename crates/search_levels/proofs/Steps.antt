@@ -99,7 +99,7 @@ module _ (target places bytes memory bound : List ℕ) (kind to i : ℕ) (f : Tr
     argument_starts = let z = h.is.before i earlier.0 earlier.1 in omega arith
 
     target_apart : Rattle.tree_reader.proofs.RoundTrip.Apart f.target
-    target_apart = apart f.target h.target-index.apart
+    target_apart = apart f.target h.target_index.apart
 
     later : (e : ℕ) → e ≡ to + length (write tree u) → Bound f bytes bound e ks b
     later e d = record { long = h.is.long; at = h.is.at; before = λ j w q. let z = h.is.before j w q in omega arith; inside = h.is.inside }

@@ -54,7 +54,7 @@ module _ (table target places kinds bytes memory bound : List ℕ) (place c stop
       ⊎ (TokenHead table bytes c stop to f given cs us b ⊎ ArgumentHead table bytes c stop to f given cs us)
 
   view : View
-  view = heads table bytes c stop to f (apart f.target h.targeted.target-index.apart) given (plain_uses f.body ks h.targeted.plain) js cs us b h.row h.more
+  view = heads table bytes c stop to f (apart f.target h.targeted.target_index.apart) given (plain_uses f.body ks h.targeted.plain) js cs us b h.row h.more
 
   pub code_inside : c < 4096
   code_inside = let x = h.row.inside in let y = h.more in omega arith

@@ -105,4 +105,4 @@ module _ (s : List ℕ) (root : ℕ) (c b i : List ℕ) where
           → Gives (path_in (length plan) (length index) w.owned.language path (block_at (sees w.card) w.owned.language path (block_of 0 root w.owned.subject)) block w.owned.subject) plan plan' index index' r
           → Hands (edit_tree s root b i path c block plan index) plan' index' r
       unfolding edit_tree edit_plan
-      edit_given path block plan index plan' index' r g = let o = w.owned.by in rw (o.is, w.card-is, o.indexed_is) g
+      edit_given path block plan index plan' index' r g = let o = w.owned.by in rw (o.is, w.card_is, o.indexed_is) g

@@ -248,7 +248,7 @@ broken_of Meant.broken e = refl
 
 module _ (x s b i path block : List ℕ) (kind of start old numbers : ℕ) (l : Language) (t a : Code) (w : Reaches x s b i path kind of start old numbers l t a) where
   pub block_ready : Ready x s of block 0
-  block_ready = record { sound = w.index-of.indexed.sound; kind = in_below s of l w.index-of.indexed.entries w.known; inside = omega arith }
+  block_ready = record { sound = w.index_of.indexed.sound; kind = in_below s of l w.index_of.indexed.entries w.known; inside = omega arith }
 
   -- What is left to be decided.
   abbrev After : (plan index : List ℕ) → Result Code → Result Code
@@ -358,6 +358,6 @@ tells d plan index r w n m en em = record {
   number_is = en ∙ ap number_of w.outcome;
   plan-long = em ∙ ap length_of w.outcome;
   index_long = w.long;
-  plan_is = w.plan-is;
+  plan_is = w.plan_is;
   index_is = w.index_is;
 }

@@ -1,4 +1,5 @@
 // A plan with one block replaced, and its index.
 #![tactic(auto)]
+
 pub mod edit;
 pub mod moves;

@@ -1,6 +1,5 @@
 use Prim.Native.Nat.{ℕ}
 use lib.ListN.{get_or-eq_default}
-use borrow.Author.Rules.{rules}
 use Rattle.format_fields.proofs.bytes.byte_at.Goals as goal
 
 pub returns-else-i-s : goal.returns-else-i-s

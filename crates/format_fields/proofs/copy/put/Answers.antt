@@ -1,10 +1,9 @@
-use borrow.Author.Rules.{rules}
-use Prim.Native.Nat.{ℕ, ◌+◌, ◌-◌, ◌≤◌}
+use Prim.Native.Nat.{ℕ, ◌+◌, ◌-◌}
 use mathlib.Core.Path.{◌≡◌, ap, ◌∙◌}
 use mathlib.Core.List.{List}
 use native.Mathlib.Omega.{arith}
-use lib.ListN.{length, drop, set, get_or, length-set}
-use lib.Seq.{paste, paste-zero}
+use lib.ListN.{drop, set, get_or, length-set}
+use lib.Seq.{paste-zero}
 use Rattle.format_fields.proofs.Splices.{put_more, put_full, put_done}
 use Rattle.format_fields.proofs.copy.put.Goals as goal
 

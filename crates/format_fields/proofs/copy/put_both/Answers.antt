@@ -1,7 +1,6 @@
 use native.Mathlib.Omega.{arith}
 use lib.Seq.{slice}
 use Rattle.format_fields.proofs.Splices.{both_full, both_then}
-use borrow.Author.Rules.{rules}
 use Rattle.format_fields.proofs.copy.put_both.Goals as goal
 
 pub returns-in_default : goal.returns-in_default

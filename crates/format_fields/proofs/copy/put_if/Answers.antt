@@ -1,6 +1,5 @@
 use lib.Seq.{slice}
 use Rattle.format_fields.proofs.Splices.{put_wanted, put_unwanted}
-use borrow.Author.Rules.{rules}
 use Rattle.format_fields.proofs.copy.put_if.Goals as goal
 
 pub returns-then-wanted : goal.returns-then-wanted

@@ -3,7 +3,6 @@ use mathlib.Core.Path.{refl}
 use lib.ListN.{length-set}
 use native.Mathlib.Omega.{arith}
 use Rattle.format_fields.proofs.Splices.{pair_put}
-use borrow.Author.Rules.{rules}
 use Rattle.format_fields.proofs.copy.put_pair.Goals as goal
 
 pub bounds-out-n-2 : goal.bounds-out-n-2

@@ -1,6 +1,5 @@
 use native.Mathlib.Omega.{arith}
 use Rattle.format_fields.proofs.Places.{cut_head, cut_end, end_inside}
-use borrow.Author.Rules.{rules}
 use Rattle.format_fields.proofs.walk.end_if_whole.Goals as goal
 
 pub returns-then-s-p-lt3 : goal.returns-then-s-p-lt3

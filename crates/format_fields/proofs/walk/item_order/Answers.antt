@@ -1,7 +1,6 @@
 use mathlib.Core.Path.{refl, ◌∙◌}
 use native.Mathlib.Omega.{arith}
 use Rattle.format_fields.proofs.Keys.{order_plain, order_mapping, order_short, order_clause}
-use borrow.Author.Rules.{rules}
 use Rattle.format_fields.proofs.walk.item_order.Goals as goal
 
 pub returns-then-tag-lt-NUMBERED : goal.returns-then-tag-lt-NUMBERED

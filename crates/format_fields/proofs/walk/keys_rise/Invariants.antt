@@ -1,14 +1,10 @@
-use borrow.Author.Rules.{rules}
-use native.Mathlib.Omega.{arith}
 use Prim.Native.Nat.{◌-◌}
-use mathlib.Core.Path.{◌≡◌, refl}
+use mathlib.Core.Path.{◌≡◌}
 use mathlib.Core.Bool.{true}
 use lib.ListN.{length}
 use Rattle.format_fields.specs.Lists.{all}
 use Rattle.format_fields.specs.Keyed.{rising, rising_from}
 use Rattle.format_fields.specs.Inner.Places.{places_from, places, order_at, long_at}
-use Rattle.format_fields.proofs.Keys.{keys_done, keys_stop, keys_next}
-use Rattle.format_fields.proofs.Places.{every_here, every_after, long_here}
 use Rattle.format_fields.proofs.walk.keys_rise.Given as goal
 
 abbrev pub invariant-loop-p : goal.invariant-loop-p

@@ -1,6 +1,5 @@
 use native.Mathlib.Omega.{arith}
 use Rattle.format_fields.proofs.Keys.{order_item, order_other}
-use borrow.Author.Rules.{rules}
 use Rattle.format_fields.proofs.walk.order_at.Goals as goal
 
 pub returns-then-leading_tag-eq-MAPPING : goal.returns-then-leading_tag-eq-MAPPING

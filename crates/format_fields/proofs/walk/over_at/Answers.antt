@@ -1,6 +1,5 @@
 use mathlib.Core.Path.{refl}
 use Rattle.format_fields.proofs.Over.{over_within, over_first, over_second}
-use borrow.Author.Rules.{rules}
 use Rattle.format_fields.proofs.walk.over_at.Goals as goal
 
 pub returns-then-pair_in-limit : goal.returns-then-pair_in-limit

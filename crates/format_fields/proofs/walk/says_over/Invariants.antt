@@ -1,14 +1,11 @@
 use Prim.Native.Nat.{◌-◌}
-use mathlib.Core.Path.{◌≡◌, refl}
+use mathlib.Core.Path.{◌≡◌}
 use mathlib.Core.Bool.{◌||◌}
 use lib.ListN.{length}
 use lib.Dec.{eqb}
 use Rattle.format_fields.specs.Lists.{any}
 use Rattle.format_fields.specs.Fields.{has_over}
 use Rattle.format_fields.specs.Inner.Places.{places_from, over_at}
-use Rattle.format_fields.proofs.Places.{some_done, some_stop, some_next}
-use Rattle.format_fields.proofs.Over.{over_at_places, over_cut_off}
-use borrow.Author.Rules.{rules}
 use Rattle.format_fields.proofs.walk.says_over.Given as goal
 
 abbrev pub invariant-loop-p : goal.invariant-loop-p

@@ -1,9 +1,6 @@
-use borrow.Author.Rules.{rules}
 use native.Mathlib.Omega.{arith}
-use Prim.Native.Nat.{◌-◌}
-use lib.ListN.{length}
 use Rattle.format_fields.proofs.Places.{every_here, long_here}
-use Rattle.format_fields.proofs.Skips.{Passed, skip_start, skip_next, skip_stop}
+use Rattle.format_fields.proofs.Skips.{skip_start, skip_next, skip_stop}
 use Rattle.format_fields.proofs.walk.skip_below.Goals as goal
 
 pub loop-q-init : goal.loop-q-init

@@ -1,6 +1,5 @@
 use native.Mathlib.Omega.{arith}
 use Rattle.format_fields.proofs.Keys.{slot_plain, slot_none}
-use borrow.Author.Rules.{rules}
 use Rattle.format_fields.proofs.walk.slot_at.Goals as goal
 
 pub returns-then-byte_at-lt-NUMBERED : goal.returns-then-byte_at-lt-NUMBERED

@@ -1,4 +1,4 @@
-use mathlib.Core.Path.{refl, ◌∙◌}
+use mathlib.Core.Path.{refl}
 use Rattle.format_fields.proofs.Keys.{key_first, key_second}
 use borrow.Author.Rules.{rules}
 use Rattle.format_fields.proofs.walk.whole_key.Goals as goal

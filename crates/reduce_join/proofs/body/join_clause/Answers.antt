@@ -1,7 +1,6 @@
 use native.Mathlib.Omega.{arith}
 use mathlib.Core.Path.{refl}
 use Rattle.reduce_join.proofs.Turns.{pair_is, clause_short, clause_full, clause_in, clause_to, run_asks, run_stores, number_below}
-use borrow.Author.Rules.{rules}
 use Rattle.reduce_join.proofs.body.join_clause.Goals as goal
 
 pub returns-then-out-start : goal.returns-then-out-start

@@ -1,13 +1,9 @@
-use native.Mathlib.Omega.{arith}
-use borrow.Author.Rules.{rules}
 use Prim.Native.Nat.{◌-◌, ◌≤◌}
-use mathlib.Core.Path.{◌≡◌, refl, ◌∙◌}
+use mathlib.Core.Path.{◌≡◌}
 use lib.ListN.{length}
 use Rattle.format_translation.specs.Translation.{Translation}
-use Rattle.format_translation.proofs.Whole.{item_long}
 use Rattle.reduce_join.specs.Inner.Joining.{Joining, joined_field}
-use Rattle.reduce_join.proofs.Operands.{reach_asks, number_asks}
-use Rattle.reduce_join.proofs.Turns.{item_number, Writing, writing_start, writing_full, writing_next, writing_done, fields_from, fields_all, fields_next, fields_end}
+use Rattle.reduce_join.proofs.Turns.{Writing, fields_from}
 use Rattle.reduce_join.proofs.body.join_item.Given as goal
 
 abbrev pub invariant-loop-j : goal.invariant-loop-j

@@ -1,16 +1,13 @@
-use native.Mathlib.Omega.{arith}
-use borrow.Author.Rules.{rules}
 use Prim.Native.Nat.{◌-◌, ◌≤◌}
-use mathlib.Core.Path.{◌≡◌, refl, ◌∙◌}
+use mathlib.Core.Path.{◌≡◌}
 use mathlib.Core.Bool.{true}
 use lib.ListN.{length}
 use Rattle.format_fields.specs.Lists.{all, concat_map}
 use Rattle.format_fields.specs.Inner.Places.{places_from}
 use Rattle.format_translation.specs.Translation.{Translation}
 use Rattle.format_translation.specs.Inner.Items.{item_whole}
-use Rattle.format_translation.proofs.Whole.{item_here, items_on}
 use Rattle.reduce_join.specs.Inner.Joining.{Joining, Reached, joined_field, joined_body}
-use Rattle.reduce_join.proofs.Turns.{Writing, writing_start, writing_full, writing_next, writing_done, body_places, items_whole_lem, places_on, places_end, reached_start, reached_next}
+use Rattle.reduce_join.proofs.Turns.{Writing}
 use Rattle.reduce_join.proofs.body.join_items.Given as goal
 
 abbrev pub invariant-loop-p : goal.invariant-loop-p

@@ -1,7 +1,6 @@
 use mathlib.Core.Path.{ap, ◌∙◌}
 use Rattle.format_translation.specs.Inner.Items.{is_clause_tag}
 use Rattle.reduce_join.proofs.Turns.{table_at, number_none, number_code, number_there, number_mapping}
-use borrow.Author.Rules.{rules}
 use Rattle.reduce_join.proofs.body.join_number.Goals as goal
 
 pub returns-then-to-eq0 : goal.returns-then-to-eq0

@@ -1,6 +1,5 @@
 use mathlib.Core.Path.{◌∙◌}
 use Rattle.reduce_join.proofs.Turns.{reach_some, reach_clause, reach_end, reach_mapping}
-use borrow.Author.Rules.{rules}
 use Rattle.reduce_join.proofs.body.kind_reached.Goals as goal
 
 pub overflow_sub-result : goal.overflow_sub-result

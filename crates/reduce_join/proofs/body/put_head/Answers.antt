@@ -1,5 +1,4 @@
 use Rattle.reduce_join.proofs.Splices.{head_plain, head_numbered}
-use borrow.Author.Rules.{rules}
 use Rattle.reduce_join.proofs.body.put_head.Goals as goal
 
 pub returns-then-number-eq0 : goal.returns-then-number-eq0

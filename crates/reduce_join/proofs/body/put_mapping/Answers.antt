@@ -1,5 +1,4 @@
 use Rattle.reduce_join.proofs.Splices.{mapping_plain, mapping_numbered}
-use borrow.Author.Rules.{rules}
 use Rattle.reduce_join.proofs.body.put_mapping.Goals as goal
 
 pub returns-then-number-eq0 : goal.returns-then-number-eq0

@@ -1,5 +1,4 @@
 use Rattle.reduce_join.proofs.Splices.{wrote_to, wrote_over}
-use borrow.Author.Rules.{rules}
 use Rattle.reduce_join.proofs.body.put_run.Goals as goal
 
 pub returns-then-out-m : goal.returns-then-out-m

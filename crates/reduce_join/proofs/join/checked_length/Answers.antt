@@ -1,5 +1,4 @@
 use Rattle.reduce_join.proofs.Joined.{length_accepted, length_refused}
-use borrow.Author.Rules.{rules}
 use Rattle.reduce_join.proofs.join.checked_length.Goals as goal
 
 pub returns-in-Accepted : goal.returns-in-Accepted

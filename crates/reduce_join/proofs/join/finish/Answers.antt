@@ -1,6 +1,5 @@
 use Rattle.reduce_operators.specs.Inner.Assembled.{assembled}
 use Rattle.reduce_join.proofs.Joined.{given_whole, front_length, finish_refused, finish_checked}
-use borrow.Author.Rules.{rules}
 use Rattle.reduce_join.proofs.join.finish.Goals as goal
 
 pub slice_bounds-checked_length-end : goal.slice_bounds-checked_length-end

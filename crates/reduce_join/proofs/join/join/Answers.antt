@@ -1,7 +1,5 @@
-use native.Mathlib.Omega.{arith}
 use Rattle.reduce_operators.proofs.TranslationLaws.{accepted_spelt}
 use Rattle.reduce_operators.proofs.Accepted.{accepted_there}
-use borrow.Author.Rules.{rules}
 use Rattle.reduce_join.proofs.join.join.Goals as goal
 
 pub join_parts-requires : goal.join_parts-requires

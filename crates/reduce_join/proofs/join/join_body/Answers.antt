@@ -1,7 +1,6 @@
 use mathlib.Core.Path.{refl}
 use Rattle.tree_reader.proofs.Lookup.{zeros}
 use Rattle.reduce_join.proofs.Joined.{body_items, body_within, source_within, target_within, spelt_checked, first_below, fitted_joining}
-use borrow.Author.Rules.{rules}
 use Rattle.reduce_join.proofs.join.join_body.Goals as goal
 
 pub begin-requires : goal.begin-requires

@@ -1,7 +1,6 @@
 use mathlib.Core.Path.{refl}
 use Rattle.reduce_operators.proofs.Given.{stored_room, stored_length, stored_first}
 use Rattle.reduce_join.proofs.Joined.{spelt_held, source_within, target_within, fitting_full}
-use borrow.Author.Rules.{rules}
 use Rattle.reduce_join.proofs.join.join_fitting.Goals as goal
 
 pub returns-in_default : goal.returns-in_default

@@ -1,8 +1,5 @@
-use borrow.Author.Tests.{not-true, not-false}
 use Rattle.reduce_operators.proofs.TranslationLaws.{source_entries, target_entries}
 use Rattle.reduce_join.proofs.Joined.{body_items, parts_high, parts_unfit, parts_fitted, parts_given}
-use borrow.Author.Rules.{rules}
-use borrow.Author.Rules.{rules}
 use Rattle.reduce_join.proofs.join.join_parts.Goals as goal
 
 pub numbers_low-requires : goal.numbers_low-requires

@@ -1,6 +1,5 @@
 use native.Mathlib.Omega.{arith}
 use mathlib.Core.Path.{sym, ◌∙◌}
-use borrow.Author.Rules.{rules}
 use Rattle.reduce_join.proofs.join.number_limit.Goals as goal
 
 pub returns-then-numbers_below : goal.returns-then-numbers_below

@@ -1,7 +1,4 @@
-use borrow.Author.Tests.{not-true, not-false}
 use Rattle.reduce_join.proofs.Joined.{low_not, low_both}
-use borrow.Author.Rules.{rules}
-use borrow.Author.Rules.{rules}
 use Rattle.reduce_join.proofs.join.numbers_low.Goals as goal
 
 pub returns-then-not-numbers_below : goal.returns-then-not-numbers_below

@@ -1,0 +1,10 @@
+use native.Mathlib.Omega.{arith}
+use Rattle.reduce_operation.proofs.Operation.{write_done, short_take}
+use borrow.Author.Rules.{rules}
+use Rattle.reduce_operation.proofs.reduce.write.Goals as goal
+
+pub put-requires : goal.put-requires
+put-requires c = (record { rise = omega arith; fits = omega arith }, omega arith)
+
+pub returns : goal.returns
+returns c = (c.accept.ensures, write_done c.put.ensures (search (short_take, rules)))

@@ -1,0 +1,17 @@
+use borrow.Author.Rules.{rules}
+use Prim.Native.Nat.{ℕ, ◌+◌, ◌-◌, ◌≤◌, ◌<◌}
+use mathlib.Core.Path.{sym, ◌∙◌}
+use mathlib.Core.List.{List}
+use native.Mathlib.Omega.{arith}
+use Rattle.format_translation.specs.Translation.{Translation}
+use Rattle.search_sources.specs.Inner.Goals.{Goal}
+use Rattle.search_levels.specs.Inner.Clauses.{MatchAsks}
+use Rattle.search_levels.proofs.Alone.{clause_starts, clause_inside, number_inside, alone_matches}
+use Rattle.search_levels.proofs.Whole.{Going, the_clause, match_free, match_start, going_inside, match_step, match_stops, match_next, match_done, step_width}
+use Rattle.search_levels.proofs.clause.matches.Given as goal
+
+abbrev pub invariant-loop-c : goal.invariant-loop-c
+invariant-loop-c l = (l.stop ≤ 4096) × ((f : Translation) (k p : ℕ) (ks : List ℕ) (g : Goal) → MatchAsks l.table l.target l.places l.kinds l.tree l.memory l.initial.bound l.place l.clause l.at f k p ks g → Going l.table l.tree l.bound l.c l.stop l.to f k p ks g)
+
+abbrev pub decreases-loop-c : goal.decreases-loop-c
+decreases-loop-c l = l.stop - l.c

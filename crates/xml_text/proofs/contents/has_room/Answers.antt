@@ -1,0 +1,10 @@
+use mathlib.Core.Path.{refl}
+use Rattle.xml_text.proofs.Takes.{fits_short, fits_counted}
+use borrow.Author.Rules.{rules}
+use Rattle.xml_text.proofs.contents.has_room.Goals as goal
+
+pub returns-then-text-room : goal.returns-then-text-room
+returns-then-text-room c = fits_short _ _ c.if-text-room.true
+
+pub returns : goal.returns
+returns c = fits_counted _ _ c.count.ensures refl

@@ -1,0 +1,15 @@
+use borrow.Author.Rules.{rules}
+use Prim.Native.Nat.{ℕ, ◌-◌, ◌≤◌}
+use mathlib.Core.Path.{◌≡◌, refl, ◌∙◌}
+use mathlib.Core.List.{List}
+use native.Mathlib.Omega.{arith}
+use lib.ListN.{length}
+use Rattle.xml_text.specs.Inner.Contents.{Contents, Written-to}
+use Rattle.xml_text.proofs.Takes.{taken_start, taken_done, taken_full, taken_again}
+use Rattle.xml_text.proofs.contents.write_contents.Given as goal
+
+abbrev pub invariant-loop-at : goal.invariant-loop-at
+invariant-loop-at l = (l.at ≤ length l.text) × (l.n ≤ length l.out) × (length l.out ≡ length l.initial.out) × ((v : List ℕ) → Contents l.text v → length v ≤ length l.initial.out → Written-to v l.text l.initial.out l.out 0 l.at l.n)
+
+abbrev pub decreases-loop-at : goal.decreases-loop-at
+decreases-loop-at l = length l.text - l.at

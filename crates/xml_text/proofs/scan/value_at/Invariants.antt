@@ -1,0 +1,15 @@
+use borrow.Author.Rules.{rules}
+use Prim.Native.Nat.{◌+◌, ◌-◌, ◌<◌, ◌≤◌}
+use mathlib.Core.Path.{◌≡◌}
+use native.Mathlib.Omega.{arith}
+use lib.ListN.{length, drop}
+use borrow.Author.Tests.{not-true, not-false}
+use Rattle.xml_text.specs.Import.{read_number, read_digits}
+use Rattle.xml_text.proofs.Scans.{number_zero, number_other, first_range, number_start, number_stops, next_range, number_on, number_large}
+use Rattle.xml_text.proofs.scan.value_at.Given as goal
+
+abbrev pub invariant-loop-i : goal.invariant-loop-i
+invariant-loop-i l = (read_number (drop l.at l.text) ≡ read_digits l.value (drop (l.at + l.i) l.text)) × (l.value < 65536) × (l.i ≤ 6)
+
+abbrev pub decreases-loop-i : goal.decreases-loop-i
+decreases-loop-i l = 6 - l.i
