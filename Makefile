@@ -19,14 +19,14 @@ export ALGEBRA_LIB_DIR := $(abspath $(ALGEBRA_LIB_DIR))
 ARCHIVE := $(ALGEBRA_LIB_DIR)/libalgebra.a
 COMMAND := target/release/algebra
 SHARED := target/lib/$(SONAME)
-PROVED := crates.txt $(shell find crates -name '*.rt' -o -name '*.antt')
+PROVED := crates.txt $(shell find crates -name out -prune -o \( -name '*.rt' -o -name '*.antt' \) -print)
 
 .PHONY: help run test library command examples install uninstall target/share
 
 help:
 	@echo 'make run        builds what is needed and shows a session: check, reduce, list, run'
 	@echo 'make test       all tests, as .ci/run does'
-	@echo 'make library    the archive target/staticlib/libalgebra.a and the listing program, proved'
+	@echo 'make library    the archive target/staticlib/libalgebra.a, the listing and the display program, proved'
 	@echo 'make command    the command $(COMMAND)'
 	@echo 'make install    command, its manual page and completion, header, archive, shared library and algebra.pc'
 	@echo '                below PREFIX ($(PREFIX)); DESTDIR too'
@@ -41,7 +41,7 @@ test:
 
 library: $(ARCHIVE)
 
-# All that is needed is proved in one go, four crates at a time, with a line for each; then the archive is built.
+# All is proved in one go, up to four crates at a time, with a line for each; then the archive and the programs are built.
 $(BUILT_ARCHIVE): $(PROVED)
 	@bash crates/prove
 
