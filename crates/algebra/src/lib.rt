@@ -1,5 +1,6 @@
 // The C interface: each operation answers with its number. A slice is a pointer and a length.
 #![tactic(auto)]
+
 ghost use Rattle.std.specs.Prelude.{◌≡◌, length as size};
 ghost use Rattle.outcome.specs.Outcome.{number_of, length_of};
 ghost use Rattle.format_language.specs.Operations.{check_language};

@@ -1,5 +1,5 @@
 -- Opening a language: a law for each return of the functions of open.rt, and what goes on from there.
-use Prim.Native.Nat.{ℕ, ◌<◌, ◌≤◌}
+use Prim.Native.Nat.{ℕ, ◌≤◌}
 use mathlib.Core.Path.{◌≡◌, refl, sym, ap, ◌∙◌}
 use mathlib.Core.Bool.{Bool, true, false, not}
 use mathlib.Core.List.{List, []}
@@ -15,7 +15,7 @@ use Rattle.outcome.specs.declared.Reason.{Reason}
 use Rattle.outcome.specs.declared.Reason.TheVariants as Why
 use Rattle.format_fields.specs.Keyed.{rising}
 use Rattle.format_fields.proofs.Truth.{by_test, true_not}
-use Rattle.format_fields.proofs.Codec.{refused_value, step_value, value_inj}
+use Rattle.format_fields.proofs.Codec.{step_value, value_inj}
 use Rattle.format_language.specs.Language.{Language, is_in, entry_key, clashes}
 use Rattle.format_language.specs.LanguageFile.{entries_of, language_of}
 use Rattle.format_language.specs.Operations.{check_language}

@@ -1,5 +1,6 @@
 // What is opened for the operations, and the operations that check a tree and a translation.
 #![tactic(auto)]
+
 pub mod open;
 pub mod put;
 pub mod translations;

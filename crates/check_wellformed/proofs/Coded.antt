@@ -9,7 +9,7 @@ use native.Mathlib.Omega.{arith}
 use lib.ListN.{length, get_or, take, drop, length-take, length-drop, length-append, drop_of_length-le, get_or-eq_default}
 use lib.Seq.{slice, length-take-le, take_at, take_all, drop_at, get_or-take}
 use lib.Dec.{ltb, eqb}
-use borrow.Author.Tests.{eq-eqb, ne_eqb, lt-ltb, eqb-true, eqb-false, ltb-true, ltb-false}
+use borrow.Author.Tests.{ne_eqb, eqb-true, eqb-false, ltb-true, ltb-false}
 use Rattle.format_fields.specs.Lists.{all, is_some}
 use Rattle.format_fields.specs.Fields.{pair_at}
 use Rattle.format_fields.specs.Inner.Places.{field_end, key_at}
@@ -27,7 +27,7 @@ use Rattle.tree_reader.specs.Syntax as Meant
 use Rattle.tree_reader.specs.declared.node.Read.{Read}
 use Rattle.tree_reader.specs.declared.node.Read.TheVariants.{End, Deep, Broken}
 use Rattle.tree_reader.specs.Inner.Index.{Indexed, arguments_before}
-use Rattle.tree_reader.specs.Inner.Positions.{KindsIn, EndsBy, rest_at, rest_of, kind_before, mapped_in, uses_in}
+use Rattle.tree_reader.specs.Inner.Positions.{KindsIn, EndsBy, rest_at, rest_of, mapped_in, uses_in}
 use Rattle.tree_reader.proofs.Meaning.{done_of, deep_of, broken_of}
 use Rattle.format_translation.specs.Translation.{Body, Translation, mapping, mapping_of, mapped}
 use Rattle.format_translation.specs.TranslationFile.{body_of}

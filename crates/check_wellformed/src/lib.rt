@@ -1,5 +1,6 @@
 // Well-formed translations: the mapping, the clauses and their codes.
 #![tactic(auto)]
+
 pub mod check;
 pub mod clauses;
 pub mod codes;

@@ -1,5 +1,5 @@
 -- What the display puts is its text.
-use Prim.Native.Nat.{ℕ, ◌≤◌}
+use Prim.Native.Nat.{ℕ, ◌+◌, ◌<◌, ◌≤◌}
 use mathlib.Core.Path.{◌≡◌, refl, sym, ap, ◌∙◌}
 use mathlib.Core.List.{List, [], ◌∷◌, ◌++◌}
 use native.Mathlib.Omega.{arith}
@@ -15,7 +15,9 @@ use Rattle.outcome.specs.declared.Outcome.TheVariants.{Accepted, Refused}
 use Rattle.tree_block.specs.Operations.{Shown, show_block}
 use Rattle.tree_block.specs.Parts.{Handed}
 use Rattle.program_text.specs.Text.{refused_word, pair_of, first_line}
-use Rattle.program_text.proofs.Numbers.{reason_low}
+use Rattle.program_text.specs.Inner.Putting.{Puts}
+use Rattle.program_text.proofs.Putting.{puts_then}
+use Rattle.program_text.proofs.Numbers.{reason_low, number_low}
 use Rattle.display.specs.Display.{root_in, shown_text, display}
 use Rattle.display.specs.Inner.Showing.{ShownBy}
 
@@ -32,8 +34,22 @@ root_other [] h = refl
 root_other (k ∷ []) h = absurd (h refl)
 root_other (k ∷ j ∷ s) h = refl
 
--- What is put for what is handed back is its text.
+-- put_shown
+pub shown_refused : (n : ℕ) (part o o' : List ℕ) (r : ℕ) → (n ≡ 0 → ⊥) → Puts (first_line refused_word n) o o' 0 r → ShownBy n part o o' r
+shown_refused n part o o' r h p = record { block = λ e. absurd (h e); refusal = λ k. p }
+
+pub shown_block : (n : ℕ) (part o o' o'' : List ℕ) (q r : ℕ) → n ≡ 0 → Puts (concat_map pair_of part) o o' 0 q → Puts (10 ∷ []) o' o'' q r → ShownBy n part o o'' r
+shown_block n part o o' o'' q r e x y =
+    record { block = λ d. puts_then (concat_map pair_of part) (10 ∷ []) o o' o'' 0 q r x y; refusal = λ k. absurd (k e) }
+
+-- The part that is handed back is no longer than the plan.
 module _ {d : Shown} {plan : Bor (List ℕ)} {number kind : ℕ} {part : Bor (List ℕ)} (h : Handed d plan number kind part) where
+  pub handed_low : number < 10000
+  handed_low = let e = h.number_is in let n = number_low d.outcome in omega arith
+
+  pub handed_short : length part.now ≤ length plan.now
+  handed_short = let i = h.part.inside in omega arith
+
   pub shown_text_lem : (o o' : List ℕ) (r : ℕ) → ShownBy number part.now o o' r → (r ≤ length o') × (take r o' ≡ shown_text d.outcome d.bytes)
   shown_text_lem o o' r s = go d.outcome refl
     where

@@ -13,7 +13,7 @@ use borrow.Author.Tests.{le-leb, leb-true, eqb-true, le-ltb, ltb-false}
 use Rattle.outcome.specs.Outcome.{Result, value, refuse_if, ◌>>=◌}
 use Rattle.outcome.specs.declared.Reason.TheVariants.{TooLong, OutOfOrder, ClassIsResult}
 use Rattle.format_fields.specs.Lists.{all, traverse}
-use Rattle.format_fields.specs.Fields.{Field, field, byte_at, pair_at, two_bytes, fields_of, encode_fields, decoded_in}
+use Rattle.format_fields.specs.Fields.{Field, field, byte_at, pair_at, two_bytes, fields_of, decoded_in}
 use Rattle.format_fields.specs.Keyed.{rising}
 use Rattle.format_fields.proofs.Truth.{by_test, none_some, and_both, both_and, or_cases}
 use Rattle.format_fields.proofs.Codec.{Bytes, contents_of, Codec, cond_some, refused_value, two_tags, front_two, fields_encode, fields_length, entries_encode, entries_whole, entries_length}

@@ -8,7 +8,7 @@ use native.Mathlib.Omega.{arith}
 use native.Mathlib.Nat.{div-add-mod', le-div_iff_mul-le, mul-mod_left, add-mul-mod_self_right, mul-le-mul_right, mul_assoc, add-mul, suc-mul, zero-mul, one-mul}
 use lib.ListN.{length, get_or}
 use lib.Dec.{leb, eqb}
-use borrow.Author.Tests.{leb-true, le-leb, lt-leb, eq-eqb, ne_eqb, eqb-true}
+use borrow.Author.Tests.{leb-true, le-leb, lt-leb, eq-eqb, eqb-true}
 use Rattle.format_fields.specs.Lists.{count_up}
 use Rattle.format_fields.specs.Fields.{pair_at}
 use Rattle.format_fields.specs.Inner.Places.{field_end}

@@ -2,7 +2,6 @@
 use Rattle.std.specs.Prelude.{ℕ, ◌+◌, ◌*◌, Bool, false, cond, not, ◌&&◌, ◌||◌, List, eqb}
 use Rattle.std.proofs.Math.Option.{Option, none, some}
 use Rattle.format_fields.specs.Lists.{any, first, is_some, same_numbers}
-use Rattle.format_fields.specs.Keyed as Keyed
 pub use Rattle.format_language.specs.Ranges.{Range, range}
 unfoldable pub use Rattle.format_language.specs.Ranges.{in_range, same_range, legal_too, range_within}
 

@@ -14,7 +14,7 @@ use Rattle.format_fields.proofs.Truth.{Mem, none_some, some_inj, false_true, and
 use Rattle.format_fields.proofs.Keyed.{Rising}
 use Rattle.format_fields.proofs.Codec.{refused_value, value_inj}
 use Rattle.format_language.specs.Language.{Entry, class, production, Language, entry_key, Range, range_within, is_in, range_of, arguments_of}
-use Rattle.format_language.proofs.Lookup.{range_mem, arguments_mem, mem_arguments}
+use Rattle.format_language.proofs.Lookup.{arguments_mem, mem_arguments}
 use Rattle.tree_reader.specs.Code.{Code}
 use Rattle.tree_reader.specs.Typing.{Uses, Typed}
 use Rattle.tree_reader.specs.Syntax.{Read, done, deep, broken, code}

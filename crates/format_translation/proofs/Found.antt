@@ -8,7 +8,7 @@ use native.Mathlib.Omega.{arith}
 use lib.ListN.{length, get_or, take, drop, length-drop, get_or-eq_default}
 use lib.Seq.{slice, take_all}
 use lib.Dec.{ltb, leb, eqb}
-use borrow.Author.Tests.{lt-ltb, le-ltb, le-leb, lt-leb, eq-eqb, ne_eqb, leb-true, leb-false, eqb-true, eqb-false}
+use borrow.Author.Tests.{lt-ltb, le-ltb, le-leb, eq-eqb, ne_eqb, leb-true, leb-false, eqb-true, eqb-false}
 use Rattle.format_fields.specs.Lists.{before, is_some}
 use Rattle.format_fields.specs.Fields.{Field, field, pair_at, fields_of, has_over}
 use Rattle.format_fields.specs.Inner.Places.{field_end, is_whole, WholeEnd, field_at, contents_at}

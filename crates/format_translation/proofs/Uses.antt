@@ -8,21 +8,20 @@ use native.Mathlib.Omega.{arith}
 use native.Mathlib.Numerals.{add-one}
 use lib.ListN.{length, get_or}
 use lib.Seq.{get_or-set_same, get_or-set_other}
-use lib.Dec.{ltb, eqb}
+use lib.Dec.{eqb}
 use borrow.Author.Tests.{leb-true, lt-ltb, eq-eqb, ne_eqb, eqb-true, eqb-false}
-use Rattle.format_fields.specs.Lists.{all, first}
-use Rattle.format_fields.specs.Inner.Places.{field_end, is_whole, places_from, places, item_order, order_at, key_at}
+use Rattle.format_fields.specs.Lists.{first}
+use Rattle.format_fields.specs.Inner.Places.{field_end, is_whole, places_from, item_order, order_at, key_at}
 use Rattle.format_fields.specs.Fields.{pair_at}
 use Rattle.format_fields.proofs.Truth.{by_test, false_true, and_both, both_and}
-use Rattle.format_fields.proofs.Lists.{all_true}
 use Rattle.format_fields.proofs.Places.{places_next, places_done}
 use Rattle.format_language.specs.Inner.Entries.{size_at}
 use Rattle.tree_reader.specs.Inner.Index.{put_at}
 use Rattle.tree_reader.specs.Inner.Positions.{kind_before, mapped_in}
-use Rattle.tree_reader.proofs.Lookup.{put_not, put_in, put_length}
-use Rattle.format_translation.specs.Translation.{Item, mapping, clause, Body, target_at, mapping_of}
-use Rattle.format_translation.specs.TranslationFile.{body_of, is_number}
-use Rattle.format_translation.specs.Inner.Items.{item_whole, item_at, mapping_whole, numbered_mapping_whole, item_good, IsMapping, IsNumberedMapping, ItemFacts, plain_mapping, plain_clause, numbered_mapping_lem, numbered_clause_lem, is_clause_tag, items_whole, HoldsItems}
+use Rattle.tree_reader.proofs.Lookup.{put_not, put_in}
+use Rattle.format_translation.specs.Translation.{mapping, Body, target_at, mapping_of}
+use Rattle.format_translation.specs.TranslationFile.{body_of}
+use Rattle.format_translation.specs.Inner.Items.{item_whole, item_at, mapping_whole, numbered_mapping_whole, item_good, IsMapping, IsNumberedMapping, ItemFacts, plain_mapping, plain_clause, numbered_mapping_lem, numbered_clause_lem, is_clause_tag, items_whole}
 use Rattle.format_translation.specs.Inner.ItemIndex.{Mapped}
 use Rattle.format_translation.proofs.Lookup.{at_target}
 use Rattle.format_translation.proofs.Items.{item_facts, body_there, holds_items, mapping_is, clause_is, numbered_mapping_is, numbered_clause_is}

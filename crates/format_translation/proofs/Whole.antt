@@ -1,12 +1,12 @@
 -- Whole entries and items: what stands in them, and a turn of a walk over them.
 use Prim.Native.Nat.{ℕ, ◌+◌, ◌<◌, ◌≤◌}
-use mathlib.Core.Path.{◌≡◌, refl, ◌∙◌}
+use mathlib.Core.Path.{◌≡◌, refl}
 use mathlib.Core.Logic.{⊎_elim}
 use mathlib.Core.Bool.{true}
 use mathlib.Core.List.{List}
 use native.Mathlib.Omega.{arith}
 use lib.ListN.{length, get_or}
-use borrow.Author.Tests.{lt-ltb, eq-eqb}
+use borrow.Author.Tests.{lt-ltb}
 use Rattle.format_fields.specs.Lists.{all}
 use Rattle.format_fields.specs.Inner.Places.{field_end, long_at, places_from, places}
 use Rattle.format_fields.proofs.Truth.{all_mem, mem_all}
@@ -15,7 +15,7 @@ use Rattle.format_language.specs.Inner.Entries.{entry_whole, IsProduction}
 use Rattle.format_language.proofs.Facts.{entry_facts}
 use Rattle.tree_reader.specs.Inner.Positions.{KindsIn}
 use Rattle.tree_reader.proofs.Indexed.{part_kinds}
-use Rattle.format_translation.specs.Inner.Items.{item_whole, IsClause, ItemFacts, plain_mapping, plain_clause, numbered_mapping_lem, numbered_clause_lem}
+use Rattle.format_translation.specs.Inner.Items.{item_whole, ItemFacts, plain_mapping, plain_clause, numbered_mapping_lem, numbered_clause_lem}
 use Rattle.format_translation.proofs.Items.{item_facts}
 
 -- A walk over kinds.

@@ -13,7 +13,7 @@ use Rattle.outcome.specs.Outcome.{Result, value, refused, ◌>>=◌, refuse_if, 
 use Rattle.format_fields.specs.Fields.{Field}
 use Rattle.format_fields.specs.Lists.{is_some}
 use Rattle.outcome.specs.declared.Reason.{Reason}
-use Rattle.outcome.specs.declared.Reason.TheVariants.{UnknownRoot, IllegalTree, TooDeep, OutputTooShort}
+use Rattle.outcome.specs.declared.Reason.TheVariants.{UnknownRoot, TooDeep, OutputTooShort}
 use Rattle.outcome.specs.declared.Outcome.TheVariants.{Accepted, Refused}
 use Rattle.format_fields.proofs.Truth.{by_test, false_true, none_some, some_inj, some_is}
 use Rattle.format_fields.proofs.Codec.{refused_value}

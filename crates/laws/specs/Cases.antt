@@ -1,5 +1,5 @@
 -- Cases of the four laws: packs and terms that meet all that each law asks for.
-use Rattle.std.specs.Prelude.{ℕ, Bool, true, false, not, ◌&&◌, List, [], ◌∷◌, length, ltb}
+use Rattle.std.specs.Prelude.{ℕ, Bool, false, not, ◌&&◌, List, [], ◌∷◌, length, ltb}
 use Rattle.outcome.specs.Outcome.{Result, value, refused}
 use Rattle.format_fields.specs.Lists.{same_numbers}
 use Rattle.format_fields.specs.Fields.{Field, field}

@@ -1,9 +1,9 @@
 -- Edits of plans that agree outside hidden blocks, and what an edit leaves.
-use Prim.Native.Nat.{ℕ, zero, suc, ◌+◌, ◌-◌, ◌≤◌, ◌<◌}
+use Prim.Native.Nat.{ℕ, zero, suc, ◌+◌, ◌-◌}
 use mathlib.Core.Path.{◌≡◌, refl, sym, ap, ◌∙◌}
 use mathlib.Core.Bool.{Bool, true, false, not, cond, ◌||◌}
 use mathlib.Core.List.{List, [], ◌∷◌, ◌++◌, append_assoc}
-use mathlib.Core.Option.{Option, none, some, get_or}
+use mathlib.Core.Option.{Option, none, some}
 use native.Mathlib.Omega.{arith}
 use lib.ListN.{length, take, drop, length-append}
 use lib.Seq.{take-append_seam, drop-append_seam, length-take-le}
@@ -12,10 +12,10 @@ use Rattle.outcome.specs.declared.Reason.TheVariants.{NotIndexed}
 use Rattle.format_fields.specs.Lists.{same_numbers}
 use Rattle.format_fields.proofs.Truth.{none_some, some_inj, false_true}
 use Rattle.format_fields.proofs.Codec.{refused_value, step_value, value_inj}
-use Rattle.format_language.specs.Language.{Language, arguments_of}
+use Rattle.format_language.specs.Language.{Language}
 use Rattle.format_language.specs.LanguageFile.{language_of}
-use Rattle.tree_reader.specs.Code.{Code, node, token, argument, Codes, nil, cons}
-use Rattle.tree_reader.specs.Typing.{kind_at, Typed, TypedAll, typed_node, typed_token, typed_argument, typed_nil, typed_cons}
+use Rattle.tree_reader.specs.Code.{Code, Codes}
+use Rattle.tree_reader.specs.Typing.{Typed, TypedAll, typed_node, typed_token, typed_argument, typed_nil, typed_cons}
 use Rattle.tree_reader.specs.Syntax.{read, write, tree, done}
 use Rattle.tree_reader.specs.Operations.{tree_levels, whole_tree, tree_of}
 use Rattle.tree_reader.proofs.Sound.{read_done}
@@ -32,9 +32,8 @@ use Rattle.tree_mask.specs.Agreement.{Agree, both_hidden, same_token, same_produ
 use Rattle.tree_mask.proofs.Laws.{hidden_stays_hidden}
 use Rattle.tree_edit.specs.Plans.{replace_after, replace_at}
 use Rattle.tree_edit.specs.Operations.{new_block, new_plan, edit_plan}
-use Rattle.tree_edit.specs.Laws.{Edits}
 use Rattle.tree_edit.proofs.Sound.{edits_are_sound}
-use Rattle.laws_bytes.specs.Edits.{EditsStayAlike, OnlyTheBlock, EditsStayInside}
+use Rattle.laws_bytes.specs.Edits.{EditsStayAlike, EditsStayInside}
 use Rattle.laws_bytes.proofs.Opened.{no_use}
 
 -- A legal tree agrees with itself.

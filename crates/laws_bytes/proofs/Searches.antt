@@ -25,7 +25,7 @@ use Rattle.format_translation.specs.Running.{transform}
 use Rattle.format_translation.specs.Operations.{fitted, run_bytes}
 use Rattle.format_translation.specs.Plain.{plain}
 use Rattle.format_translation.proofs.Fitting.{refuse_value}
-use Rattle.search_sources.specs.Sources.{before, search_of}
+use Rattle.search_sources.specs.Sources.{search_of}
 use Rattle.search_sources.specs.Operations.{is_limit, ready, found, found_in, search_bytes}
 use Rattle.search_sources.specs.Inner.Giving.{Gives}
 use Rattle.search_sources.proofs.Theorems.{found_gives, nothing_before, none_gives}

@@ -1,6 +1,6 @@
 -- What reduce puts out is accepted by the check of a translation, and name bytes by formula.
-use mathlib.Core.Path.{◌≡◌, refl}
-use Rattle.format_pack.specs.Terms.{Sort, languages, translations, Term, constant, source_of, target_of, make, join, identity, variable, without, sum, bind, write_term}
+use mathlib.Core.Path.{refl}
+use Rattle.format_pack.specs.Terms.{languages, translations, constant, source_of, target_of, make, join, identity, variable, without, sum, bind, write_term}
 use Rattle.laws.proofs.Values.{reduced_checked}
 use Rattle.laws_bytes.specs.Values.{ReducedChecks, NumbersByFormula}
 

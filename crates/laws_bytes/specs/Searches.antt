@@ -1,7 +1,7 @@
 -- What a search puts out, in bytes (paper 02, 2026-09: "find the source tree within that limit whose run gives the target tree, the
 -- first in byte order"; "give 23 exactly if no source tree within the limit does"; "Clauses that drop an argument take its first
 -- legal tree within the levels left").
-use Rattle.std.specs.Prelude.{ℕ, zero, suc, ◌≤◌, ◌≡◌, Bool, false, ◌||◌, List, [], ◌∷◌, length, eqb}
+use Rattle.std.specs.Prelude.{ℕ, suc, ◌≤◌, ◌≡◌, Bool, false, ◌||◌, List, [], ◌∷◌, length, eqb}
 use Rattle.std.proofs.Math.Option.{some}
 use Rattle.outcome.specs.Outcome.{value, refused}
 use Rattle.outcome.specs.declared.Reason.TheVariants.{NoSource}

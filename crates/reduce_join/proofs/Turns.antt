@@ -4,11 +4,11 @@ use mathlib.Core.Path.{◌≡◌, refl, sym, ap, subst, ◌∙◌}
 use mathlib.Core.Bool.{Bool, true, false, cond}
 use mathlib.Core.List.{List, [], ◌∷◌, ◌++◌, map, append_assoc}
 use mathlib.Core.Option
-use mathlib.Core.Option.{Option, none, some}
+use mathlib.Core.Option.{Option, some}
 use native.Mathlib.Omega.{arith}
 use lib.ListN.{length, get_or, replicate, length-append}
 use lib.Dec.{eqb}
-use borrow.Author.Tests.{lt-ltb, eqb-true, leb-true}
+use borrow.Author.Tests.{lt-ltb, eqb-true}
 use Rattle.format_fields.specs.Lists.{all, is_some, keep, concat_map, count_up}
 use Rattle.format_fields.specs.Fields.{encode_field, encode_fields}
 use Rattle.format_fields.specs.Inner.Places.{field_end, is_whole, places_from, places, order_at}

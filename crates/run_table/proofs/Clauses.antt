@@ -10,7 +10,7 @@ use lib.ListN.{length, get_or, take, drop, length-drop, take-append-drop}
 use lib.Seq.{slice, drop-append-le, length-slice}
 use lib.Dec.{eqb}
 use borrow.Author.Tests.{eq-eqb, eqb-true, lt-ltb}
-use Rattle.format_fields.specs.Lists.{any, is_some}
+use Rattle.format_fields.specs.Lists.{is_some}
 use Rattle.outcome.specs.Outcome.{value}
 use Rattle.format_fields.specs.Inner.Places.{field_end, places_from, places}
 use Rattle.format_fields.proofs.Truth.{Mem, by_test, none_some, some_inj, false_true, all_mem, any_mem, mem_any, mem_map, map_cases, some_is}

@@ -1,6 +1,6 @@
 -- The places of the clauses of number 0, put into the table over the index of the target.
 use Prim.Native.Nat.{ℕ, ◌+◌, ◌*◌, ◌≤◌, ◌<◌}
-use mathlib.Core.Path.{◌≡◌, refl, sym, ap, ◌∙◌}
+use mathlib.Core.Path.{◌≡◌, refl, ◌∙◌}
 use mathlib.Core.Logic.{◌⊎◌, inl, inr, ⊎_elim}
 use mathlib.Core.Bool.{true, false}
 use mathlib.Core.List.{List, ◌∷◌}
@@ -8,14 +8,14 @@ use native.Mathlib.Omega.{arith}
 use lib.ListN.{length, get_or, set, length-set}
 use lib.Seq.{get_or-set_same, get_or-set_other}
 use lib.Dec.{eqb, ltb}
-use borrow.Author.Tests.{eq-eqb, ne_eqb, eqb-true, eqb-false, ltb-true, ltb-false, lt-ltb, le-ltb}
+use borrow.Author.Tests.{ne_eqb, eqb-true, eqb-false, ltb-true, lt-ltb, le-ltb}
 use Rattle.format_fields.specs.Fields.{pair_at}
 use Rattle.format_fields.specs.Inner.Places.{field_end, places_from, places}
 use Rattle.format_fields.proofs.Truth.{Mem, by_test}
 use Rattle.format_fields.proofs.Places.{places_done, places_next}
 use Rattle.format_language.specs.Language.{production_key}
 use Rattle.tree_reader.specs.Inner.Index.{Around}
-use Rattle.run_table.specs.Inner.Table.{clause_entry, is_place}
+use Rattle.run_table.specs.Inner.Table.{is_place}
 use Rattle.run_table.specs.Inner.Filling.{with_clause, ItemAt, Itemed}
 use Rattle.run_table.proofs.Clauses.{mem_place, place_mem}
 

@@ -2,17 +2,16 @@
 use Prim.Native.Nat.{ℕ, zero, suc, ◌+◌, ◌-◌, ◌*◌, ◌≤◌, ◌<◌}
 use mathlib.Core.Path.{◌≡◌, refl, sym, ap, ◌∙◌}
 use mathlib.Core.Bool.{true}
-use mathlib.Core.List.{List, [], ◌∷◌, ◌++◌}
+use mathlib.Core.List.{List, [], ◌∷◌}
 use mathlib.Core.Option.{none, some}
 use mathlib.Core.Logic.{⊎_elim}
 use native.Mathlib.Omega.{arith}
 use native.Mathlib.Numerals.{add-one}
-use lib.ListN.{length, get_or, set, take, drop, length-take, length-drop, get_or-append, get_or-eq_default}
-use lib.Dec.{ltb}
-use borrow.Author.Tests.{ne_eqb, ltb-true, ltb-false}
+use lib.ListN.{length, get_or, set, take, drop, length-drop}
+use borrow.Author.Tests.{ne_eqb}
 use Rattle.format_fields.specs.Fields.{pair_at}
 use Rattle.format_fields.specs.Lists.{is_some}
-use Rattle.format_fields.proofs.Truth.{Mem, by_test, none_some, some_is}
+use Rattle.format_fields.proofs.Truth.{Mem, none_some, some_is}
 use Rattle.format_language.specs.Inner.Entries.{entry_whole, IsProduction, Holds}
 use Rattle.format_language.proofs.Facts.{entry_facts}
 use Rattle.format_language.proofs.Holds.{holds_entries}
@@ -30,13 +29,13 @@ use Rattle.run_table.specs.Inner.Table.{Production, Clause, Ready, Held, Checked
 use Rattle.run_table.proofs.Spans.{place_some, below_then, spans_kept}
 use Rattle.run_table.proofs.Clauses.{code_at, whole, fits, body_rises, mem_place, place_mem, plain_start, numbered_start, numbered_found, clause_there, clause_found, clause_length}
 use Rattle.format_fields.specs.Inner.Places.{field_end, places, key_at, slot_at}
-use Rattle.tree_reader.specs.Inner.Index.{put_all, Built, Around, Sound, Indexed, range_before}
+use Rattle.tree_reader.specs.Inner.Index.{put_all, Built, Around, Indexed, range_before}
 use Rattle.tree_reader.proofs.Placed.{puts_place, found}
 use Rattle.tree_reader.proofs.Built.{get_below, get_in, get_past, built_indexed}
 use Rattle.format_language.specs.Language.{Language, Range, arguments_of, production_key}
 use Rattle.format_language.specs.LanguageFile.{entries_of}
 use Rattle.run_table.specs.Inner.Filling.{target_index, Begun, Filled, mapped_by, Below, Beside, Hinted, AllSpanned, Itemed}
-use lib.Seq.{slice, length-slice, ext_get_or, take-suc, take_all, drop-drop, set_split, length-take-le, get_or-take, get_or-drop, get_or-append-add}
+use lib.Seq.{slice, length-slice, ext_get_or, take-suc, take_all, set_split, length-take-le, get_or-take, get_or-drop}
 use Rattle.format_fields.specs.Inner.Writing.{spliced}
 use Rattle.format_fields.proofs.Splices.{opened, splice_splice, length_spliced}
 use Rattle.run_table.specs.Inner.Stands.{Stands}

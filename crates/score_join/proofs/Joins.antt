@@ -11,7 +11,7 @@ use lib.ListN.{length, get_or, take, drop, length-append}
 use lib.Seq.{slice, length-slice}
 use lib.IntN.{ℤ}
 use Rattle.format_fields.specs.Lists.{all, concat_map, count_up}
-use Rattle.format_fields.specs.Fields.{field, encode_field, encode_fields, two_bytes, pair_at}
+use Rattle.format_fields.specs.Fields.{encode_field, encode_fields, two_bytes, pair_at}
 use Rattle.format_fields.specs.Inner.Places.{field_end, places_from, places}
 use Rattle.format_fields.specs.Inner.Writing.{Written}
 use Rattle.format_fields.proofs.Truth.{Mem, none_some, some_inj, mem_map, all_mem}
@@ -39,7 +39,7 @@ use Rattle.run_table.specs.Inner.Stands.{Stands}
 use Rattle.run_table.specs.Inner.Table.{Checked}
 use Rattle.run_table.proofs.Clauses as Clauses
 use Rattle.score_tree.specs.Figures.{figure_bytes, is_figure}
-use Rattle.score_tree.specs.LoadTable.{load, load_field, encode_table}
+use Rattle.score_tree.specs.LoadTable.{load_field, encode_table}
 use Rattle.score_tree.specs.Linear.{Loads, form}
 use Rattle.score_tree.specs.Inner.Terms.{TermAsks}
 use Rattle.score_tree.specs.declared.form.Formed.{Formed}

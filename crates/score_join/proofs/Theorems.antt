@@ -1,7 +1,7 @@
 -- A joined table is a table of the source, and gives a tree the score that the table gives its run.
 use Prim.Native.Nat.{ℕ, zero, suc, max, ◌+◌, ◌*◌, ◌-◌, ◌/◌, ◌%◌, ◌<◌, ◌≤◌}
 use mathlib.Core.Path.{◌≡◌, refl, sym, ap, ◌∙◌}
-use mathlib.Core.Bool.{Bool, true, false, not}
+use mathlib.Core.Bool.{true, not}
 use mathlib.Core.Logic.{◌⊎◌, inl, ⊎_elim}
 use mathlib.Core.List.{List, [], ◌∷◌, ◌++◌, map, append-nil}
 use mathlib.Core.Option.{some}
@@ -12,7 +12,7 @@ use lib.IntN.{ℤ, pos}
 use borrow.Author.Tests.{eq-eqb}
 use Rattle.format_fields.specs.Lists.{all, concat_map, count_up, is_some}
 use Rattle.format_fields.specs.Fields.{pair_at}
-use Rattle.outcome.specs.Outcome.{Result, value, refused, refuse_if, ◌>>=◌}
+use Rattle.outcome.specs.Outcome.{value}
 use Rattle.outcome.specs.declared.Reason.TheVariants.{ScoreOutOfRange}
 use Rattle.format_fields.proofs.Truth.{and_both, Mem, mem_concat, true_not, some_is}
 use Rattle.format_fields.proofs.Keyed.{Rising, is_rising}
@@ -22,8 +22,8 @@ use Rattle.format_language.specs.LanguageFile.{language_of}
 use Rattle.format_language.proofs.Lookup.{arguments_mem, result_in}
 use Rattle.tree_reader.specs.Code.{Code, levels}
 use Rattle.tree_reader.specs.Typing.{Typed}
-use Rattle.tree_reader.specs.Syntax.{Read, done, deep, broken, read, tree, write}
-use Rattle.tree_reader.specs.Operations.{whole_tree, tree_of}
+use Rattle.tree_reader.specs.Syntax.{done, deep, read, tree, write}
+use Rattle.tree_reader.specs.Operations.{tree_of}
 use Rattle.tree_reader.proofs.RoundTrip.{Apart, round, as_tree}
 use Rattle.tree_reader.proofs.Larger.{apart}
 use Rattle.tree_reader.proofs.Sound.{read_done, more_levels}

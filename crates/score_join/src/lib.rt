@@ -1,3 +1,4 @@
 // Load tables joined onto translations.
 #![tactic(auto)]
+
 pub mod join;

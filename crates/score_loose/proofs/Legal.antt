@@ -1,12 +1,11 @@
 -- Whatever is read as a loose plan is legal, and a tree that settles it has no more levels than were left.
-use Prim.Native.Nat.{ℕ, zero, suc, max, ◌+◌, ◌*◌, ◌≤◌}
-use mathlib.Core.Path.{◌≡◌, refl, sym, ap, ◌∙◌}
-use mathlib.Core.Bool.{Bool, true, false, cond, ◌&&◌}
+use Prim.Native.Nat.{ℕ, zero, suc, ◌+◌, ◌*◌, ◌≤◌}
+use mathlib.Core.Path.{◌≡◌, refl}
+use mathlib.Core.Bool.{Bool, true, false, cond}
 use mathlib.Core.List.{List, [], ◌∷◌}
 use mathlib.Core.Option.{Option, none, some}
 use native.Mathlib.Omega.{arith}
 use Rattle.format_language.specs.Language.{Language, Range, range_of, arguments_of}
-use Rattle.tree_reader.specs.Code as Trees
 use Rattle.tree_reader.specs.Code.{Code, Codes, levels, levels_all}
 use Rattle.tree_reader.specs.Syntax.{Read, done, deep, broken, and_then}
 use Rattle.score_loose.specs.Plans.{Loose, node, token, Looses, nil, cons, is_loose, loose_token, read_pair, read_looses, read_operands, read_name, by_class, read_loose}

@@ -1,6 +1,6 @@
 -- What the walk over a plan reads in tokens of four bytes is the loose plan, and its two ends are those of the plan's score.
 use Prim.Native.Nat.{ℕ, zero, suc, ◌*◌, ◌+◌}
-use mathlib.Core.Path.{◌≡◌, refl, sym, ap, ◌∙◌}
+use mathlib.Core.Path.{◌≡◌, refl, ap, ◌∙◌}
 use mathlib.Core.Bool.{Bool, true, false, cond, ◌&&◌}
 use mathlib.Core.List.{List, [], ◌∷◌}
 use mathlib.Core.Option.{Option, none, some}

@@ -1,25 +1,25 @@
 -- The ends of a loose plan's score: each is reached by a choice, and no choice lies outside.
-use Prim.Native.Nat.{ℕ, zero, suc, ◌≤◌}
-use mathlib.Core.Path.{◌≡◌, refl, sym, ap, ◌∙◌}
-use mathlib.Core.Bool.{Bool, true, false, not, ◌&&◌}
+use Prim.Native.Nat.{ℕ, suc, ◌≤◌}
+use mathlib.Core.Path.{◌≡◌, refl, ap, ◌∙◌}
+use mathlib.Core.Bool.{Bool, true, false, not}
 use mathlib.Core.List.{List, [], ◌∷◌, ◌++◌, append-nil}
 use native.Mathlib.Omega.{arith}
 use lib.Dec.{leb, le→leb}
 use lib.IntN.{ℤ, pos, ◌+ℤ◌, ◌*ℤ◌}
-use lib.Signed.{◌≤ℤ◌, ≤ℤ_refl}
+use lib.Signed.{◌≤ℤ◌}
 use borrow.Author.Tests.{leb-true}
 use Rattle.outcome.specs.Outcome.{Result, value, refused, refuse_if, ◌>>=◌}
 use Rattle.outcome.specs.declared.Reason.TheVariants.{UnknownRoot, ScoreOutOfRange}
-use Rattle.format_fields.proofs.Truth.{by_test, false_true, and_both, both_and}
+use Rattle.format_fields.proofs.Truth.{and_both, both_and}
 use Rattle.format_fields.proofs.Codec.{refused_value}
-use Rattle.format_language.specs.Language.{Language, Range, range_of, is_in, in_range}
+use Rattle.format_language.specs.Language.{Language, Range, is_in, in_range}
 use Rattle.format_language.specs.LanguageFile.{language_of}
 use Rattle.format_language.proofs.Codec.{language_good}
 use Rattle.tree_reader.specs.Code as Trees
 use Rattle.tree_reader.specs.Code.{Code, Codes, levels}
 use Rattle.tree_reader.specs.Typing.{Typed, TypedAll, typed_node, typed_token, typed_nil, typed_cons}
 use Rattle.tree_reader.specs.Syntax.{Read, done, deep, broken, read, write, tree}
-use Rattle.tree_reader.specs.Operations.{tree_of, whole_tree}
+use Rattle.tree_reader.specs.Operations.{tree_of}
 use Rattle.tree_reader.proofs.Larger.{apart}
 use Rattle.tree_reader.proofs.RoundTrip.{as_tree, round}
 use Rattle.score_tree.specs.Figures.{is_score}

@@ -1,3 +1,4 @@
 // The score of a loose plan.
 #![tactic(auto)]
+
 pub mod operation;

@@ -18,7 +18,7 @@ use Rattle.format_fields.specs.Inner.Places.{field_end, is_whole, contents_at, f
 use Rattle.format_fields.proofs.Truth.{by_test, none_some, some_inj, and_both, Mem, any_mem, mem_append, append_cases, mem_first}
 use Rattle.format_fields.proofs.Keyed.{From, Rising, is_rising, from_weaken, from_agree}
 use Rattle.format_fields.proofs.Places.{places_done, places_next, every_here, every_after}
-use Rattle.format_fields.proofs.Split.{front, fields_done, fields_next, fields_cut, contents_length, contents_pair, contents_first, contents_second}
+use Rattle.format_fields.proofs.Split.{fields_done, fields_next, fields_cut, contents_length, contents_pair, contents_first, contents_second}
 use Rattle.format_language.specs.Language.{Language, Entry, Range, class, production, entry_key, production_key}
 use Rattle.format_language.specs.LanguageFile.{entries_of}
 use Rattle.format_language.specs.Inner.Entries.{entry_at, entry_whole, IsClass, IsProduction, RisingEntries}

@@ -1,12 +1,12 @@
 -- The walk that reads and scores a plan: a law for each turn and each return of the functions of `walk`.
-use Prim.Native.Nat.{ℕ, zero, suc, ◌+◌, ◌*◌, ◌-◌, ◌<◌, ◌≤◌}
+use Prim.Native.Nat.{ℕ, zero, suc, ◌+◌, ◌-◌, ◌<◌, ◌≤◌}
 use mathlib.Core.Path.{◌≡◌, refl, sym, ap, ◌∙◌}
 use mathlib.Core.Bool.{Bool, true, false, cond, ◌&&◌}
 use mathlib.Core.List.{List, [], ◌∷◌, ◌++◌}
 use mathlib.Core.Option.{Option, none, some}
 use native.Mathlib.Omega.{arith}
 use lib.ListN.{length, get_or, drop, set, replicate, length-drop, drop_of_length-le}
-use lib.Dec.{eqb, leb}
+use lib.Dec.{leb}
 use lib.IntN.{ℤ, pos, nat_abs, ◌+ℤ◌}
 use borrow.Author.Tests.{le-leb, lt-leb, eq-eqb, ne_eqb}
 use mir.Syntax.{w64}
@@ -17,12 +17,11 @@ use Rattle.format_fields.proofs.Truth.{both_and}
 use Rattle.format_language.specs.Language.{Language, Range, in_range, range_of, arguments_of, production_key}
 use Rattle.format_language.specs.Inner.Entries.{IsClass, class_range}
 use Rattle.tree_reader.specs.Syntax.{Read, done, deep, broken, and_then}
-use Rattle.tree_reader.specs.Inner.Index.{Indexed, range_before, arguments_before}
+use Rattle.tree_reader.specs.Inner.Index.{range_before, arguments_before}
 use Rattle.check_operations.proofs.Reading.{two}
 use Rattle.score_tree.specs.Figures.{is_score}
 use Rattle.score_tree.specs.Linear.{Loads}
-use Rattle.score_tree.specs.Inner.Kept.{Small}
-use Rattle.score_tree.specs.Inner.Sums.{weighed, AllNear}
+use Rattle.score_tree.specs.Inner.Sums.{weighed}
 use Rattle.score_tree.specs.Inner.Terms.{World, KindsAt, ProductionAt}
 use Rattle.score_tree.specs.Inner.Spreads.{Spread, spread, row_sum, row_within, node_spread, read_fixed, pair_spread, read_loosely, read_values, read_row, read_operands, read_name, by_class, read_spread}
 use Rattle.score_tree.specs.Inner.Walks.{tested_at, bounds_of, Says, Near, RowAsks}

@@ -14,7 +14,7 @@ use Rattle.format_fields.specs.Fields.{pair_at}
 use Rattle.format_fields.specs.Inner.Places.{field_end}
 use Rattle.format_fields.proofs.Truth.{by_test, none_some, some_inj}
 use Rattle.format_language.specs.Language.{Language, arguments_of, production_key}
-use Rattle.tree_reader.specs.Code.{Code, node, token, argument, Codes, levels, levels_all}
+use Rattle.tree_reader.specs.Code.{Code, node, Codes, levels, levels_all}
 use Rattle.tree_reader.specs.Typing.{Uses, kind_at, Typed, TypedAll, typed_node, typed_token, typed_argument}
 use Rattle.tree_reader.specs.Syntax.{write}
 use Rattle.tree_reader.specs.declared.node.Syntax.TheVariants as Syntaxes

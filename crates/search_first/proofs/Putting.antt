@@ -1,18 +1,18 @@
 -- What is put into the output: a law for each return and turn of the functions of `put`.
-use Prim.Native.Nat.{ℕ, zero, suc, min, ◌+◌, ◌-◌, ◌*◌, ◌/◌, ◌%◌, ◌≤◌, ◌<◌}
+use Prim.Native.Nat.{ℕ, suc, ◌+◌, ◌-◌, ◌≤◌, ◌<◌}
 use mathlib.Core.Path.{◌≡◌, refl, ap, sym, subst, ◌∙◌}
 use mathlib.Core.List.{List, [], ◌∷◌, ◌++◌, append_assoc, append-nil}
 use mathlib.Core.Option.{none, some}
 use native.Mathlib.Omega.{arith}
 use lib.ListN.{length, get_or, set, take, drop, drop_of_length-le, length-set, length-append}
-use lib.Seq.{sets, sets-eq}
+use lib.Seq.{sets-eq}
 use Rattle.format_fields.specs.Fields.{two_bytes}
 use Rattle.format_fields.specs.Inner.Writing.{spliced}
 use Rattle.format_fields.proofs.Split.{front}
 use Rattle.format_fields.proofs.Splices.{splice_splice, nothing_spliced}
 use Rattle.format_language.specs.Language.{Language, range_of, arguments_of}
 use Rattle.format_language.specs.Inner.Entries.{class_range}
-use Rattle.tree_reader.specs.Code.{Code, node, token, Codes, nil, cons}
+use Rattle.tree_reader.specs.Code.{Code, node, Codes, nil, cons}
 use Rattle.tree_reader.specs.Syntax.{write, write_all, tree}
 use Rattle.format_translation.specs.Translation.{Translation}
 use Rattle.format_translation.specs.Running.{Clauses, clauses_of}

@@ -1,8 +1,8 @@
 -- A code that is an argument alone: it matches any tree, to which the argument is bound.
 use Prim.Native.Nat.{ℕ, zero, suc, ◌+◌, ◌-◌, ◌≤◌, ◌<◌}
-use mathlib.Core.Path.{◌≡◌, refl, ap, sym, ◌∙◌}
+use mathlib.Core.Path.{◌≡◌, refl, ap, ◌∙◌}
 use mathlib.Core.Bool.{true, false}
-use mathlib.Core.List.{List, []}
+use mathlib.Core.List.{List}
 use native.Mathlib.Omega.{arith}
 use lib.ListN.{length, get_or, set}
 use Rattle.tree_reader.specs.Code.{Code, node, token, argument}
@@ -13,7 +13,7 @@ use Rattle.run_table.specs.Inner.Stands.{Stands}
 use Rattle.run_table.specs.Inner.Table.{body_start, body_byte}
 use Rattle.run_table.proofs.Standing.{stands_head}
 use Rattle.search_sources.specs.Inner.Goals.{Goal}
-use Rattle.search_levels.specs.Inner.Clauses.{ArgumentAsks, ArgumentGives, StepAsks, StepGives, MatchAsks, MatchGives}
+use Rattle.search_levels.specs.Inner.Clauses.{StepAsks, StepGives, MatchAsks, MatchGives}
 use Rattle.search_levels.proofs.Lying.{some_byte}
 use Rattle.search_levels.proofs.Steps.{argument_new, width_other}
 use Rattle.search_levels.proofs.Turns.{argument_next, number_there, number_is, argument_asks, argument_step, first_differs}

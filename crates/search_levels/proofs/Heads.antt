@@ -1,28 +1,26 @@
 -- The next code and the tree that it is compared with, by the form of the code.
-use Prim.Native.Nat.{ℕ, zero, suc, max, ◌+◌, ◌-◌, ◌*◌, ◌/◌, ◌%◌, ◌≤◌, ◌<◌}
+use Prim.Native.Nat.{ℕ, zero, suc, max, ◌+◌, ◌-◌, ◌/◌, ◌%◌, ◌≤◌, ◌<◌}
 use mathlib.Core.Path.{◌≡◌, refl, ap, sym, ◌∙◌}
 use mathlib.Core.Logic.{◌⊎◌, inl, inr}
-use mathlib.Core.Bool.{Bool, true, false, cond, ◌&&◌}
-use mathlib.Core.List.{List, [], ◌∷◌, ◌++◌, append_assoc, map}
-use mathlib.Core.Option.{Option, none, some}
+use mathlib.Core.Bool.{Bool, true}
+use mathlib.Core.List.{List, [], ◌∷◌, ◌++◌}
+use mathlib.Core.Option.{some}
 use native.Mathlib.Omega.{arith}
-use lib.ListN.{length, get_or, get_elem?, drop, length-append}
-use Rattle.format_fields.specs.Fields.{two_bytes}
+use lib.ListN.{length, get_or, get_elem?, drop}
 use Rattle.format_fields.specs.Lists.{all}
 use Rattle.format_fields.proofs.Truth.{none_some, some_inj, and_both, both_and}
-use Rattle.format_language.specs.Language.{Language, Range, range_of, arguments_of, is_in}
+use Rattle.format_language.specs.Language.{Language, arguments_of, is_in}
 use Rattle.tree_reader.specs.Code.{Code, node, token, argument, Codes, nil, cons, levels, levels_all}
 use Rattle.tree_reader.specs.Typing.{Uses, kind_by, kind_at, Typed, TypedAll, typed_node, typed_token, typed_argument, typed_nil, typed_cons}
 use Rattle.tree_reader.specs.Syntax.{write, write_all, tree, code}
 use Rattle.tree_reader.proofs.RoundTrip.{Apart}
-use Rattle.tree_reader.proofs.Larger.{apart}
 use Rattle.format_translation.specs.Translation.{Translation}
 use Rattle.format_translation.specs.Running.{Replacing}
 use Rattle.run_table.specs.Inner.Stands.{Stands}
 use Rattle.run_table.specs.Inner.Table.{body_start, body_byte}
-use Rattle.run_table.proofs.Standing.{stands_head, stands_both}
-use Rattle.tree_index.specs.Inner.Lying.{Index, Lies, LieAll}
-use Rattle.tree_index.proofs.Lying.{node_byte, first_byte, node_lies, head_lies, tail_lie}
+use Rattle.run_table.proofs.Standing.{stands_head}
+use Rattle.tree_index.specs.Inner.Lying.{Lies, LieAll}
+use Rattle.tree_index.proofs.Lying.{first_byte, node_lies, head_lies, tail_lie}
 use Rattle.search_sources.specs.Inner.Goals.{Goal}
 use Rattle.search_sources.specs.Inner.Matching.{followed, Solves, Alike}
 use Rattle.search_sources.proofs.Answers.{no_kind}

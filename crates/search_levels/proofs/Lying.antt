@@ -2,20 +2,18 @@
 use Prim.Native.Nat.{ℕ, zero, suc, ◌+◌, ◌-◌, ◌≤◌, ◌<◌}
 use mathlib.Core.Path.{◌≡◌, refl, ap, sym, ◌∙◌}
 use mathlib.Core.List.{List, [], ◌∷◌, ◌++◌}
-use mathlib.Core.Option.{none, some}
 use native.Mathlib.Omega.{arith}
 use native.Mathlib.Decide.{ℕ_discrete}
 use lib.ListN.{length, get_or, take, drop, take-append-drop}
 use lib.Seq.{get_or-take, get_or-drop}
 use Rattle.format_fields.proofs.Split.{front}
-use Rattle.format_fields.proofs.Truth.{none_some}
 use Rattle.format_language.specs.Language.{Language}
 use Rattle.tree_reader.specs.Code.{Code, levels}
 use Rattle.tree_reader.specs.Typing.{Typed, typed_node, typed_token, typed_argument}
-use Rattle.tree_reader.specs.Syntax.{Read, done, write, tree, read}
+use Rattle.tree_reader.specs.Syntax.{done, write, tree, read}
 use Rattle.tree_reader.proofs.RoundTrip.{Apart, round, as_tree}
 use Rattle.tree_index.specs.Inner.Lying.{Lies}
-use Rattle.tree_index.proofs.Lying.{past_inside, past_is, part_is}
+use Rattle.tree_index.proofs.Lying.{part_is}
 use Rattle.search_sources.proofs.Answers.{no_kind}
 
 done_both : {a b : Code} {r s : List ℕ} → done a r ≡ done b s → (a ≡ b) × (r ≡ s)

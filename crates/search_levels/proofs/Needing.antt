@@ -1,40 +1,37 @@
 -- The least levels: a law for each return and turn of the functions of `levels`.
-use Prim.Native.Nat.{ℕ, zero, suc, max, ◌+◌, ◌-◌, ◌*◌, ◌/◌, ◌%◌, ◌≤◌, ◌<◌}
+use Prim.Native.Nat.{ℕ, zero, suc, max, ◌+◌, ◌-◌, ◌/◌, ◌%◌, ◌≤◌, ◌<◌}
 use mathlib.Core.Path.{◌≡◌, refl, ap, sym, subst, ◌∙◌}
 use mathlib.Core.Logic.{◌⊎◌, inl, inr}
 use mathlib.Core.Bool.{Bool, true, false, cond}
 use mathlib.Core.List.{List, [], ◌∷◌}
-use mathlib.Core.Option.{Option, none, some}
+use mathlib.Core.Option.{none, some}
 use native.Mathlib.Omega.{arith}
 use native.Mathlib.Decide.{dec_le}
-use lib.Dec.{leb}
 use lib.ListN.{length, get_or, drop, drop_of_length-le, replicate, get_or-replicate}
 use borrow.Author.Tests.{le-leb, lt-leb}
 use Rattle.format_fields.specs.Fields.{pair_at}
 use Rattle.format_fields.specs.Inner.Places.{field_end}
 use Rattle.format_fields.proofs.Split.{front}
-use Rattle.format_fields.proofs.Truth.{none_some, some_inj}
-use Rattle.format_language.specs.Language.{Language, Range, range_of, arguments_of, in_range, kind_key, production_key}
+use Rattle.format_language.specs.Language.{Language, range_of, arguments_of, in_range, production_key}
 use Rattle.format_language.specs.Inner.Entries.{IsClass, class_range}
 use Rattle.tree_reader.specs.Code.{Code, node, token, Codes}
-use Rattle.tree_reader.specs.Typing.{TypedAll}
-use Rattle.tree_reader.specs.Inner.Index.{Indexed, range_before, arguments_before}
-use Rattle.tree_reader.specs.Syntax.{write, tree}
+use Rattle.tree_reader.specs.Inner.Index.{range_before, arguments_before}
+use Rattle.tree_reader.specs.Syntax.{write}
 use Rattle.tree_reader.proofs.RoundTrip.{Apart}
 use Rattle.tree_reader.proofs.Larger.{apart}
 use Rattle.format_translation.specs.Translation.{Translation, mapped}
-use Rattle.format_translation.specs.Running.{Clauses, clauses_of, run}
-use Rattle.run_table.specs.Inner.Table.{index_entry, clause_entry, source_byte, Production}
+use Rattle.format_translation.specs.Running.{Clauses, clauses_of}
+use Rattle.run_table.specs.Inner.Table.{index_entry, clause_entry, source_byte}
 use Rattle.run_emit.proofs.Ends.{kind_byte}
 use Rattle.tree_index.specs.Inner.Lying.{Lies}
 use Rattle.tree_index.proofs.Lying.{first_byte}
-use Rattle.search_sources.specs.Inner.Goals.{Goal, Meets, Matches, Fits, FitsAll}
+use Rattle.search_sources.specs.Inner.Goals.{Goal, Fits, FitsAll}
 use Rattle.search_sources.specs.Inner.Levels.{Needs, NeedsAll, NeedsNamed, recalled, noted}
 use Rattle.search_sources.proofs.Memory.{recall_needs}
-use Rattle.search_sources.proofs.Answers.{cons-fits, needs-nil, needs-cons, needs-node, needs-unknown, needs-unmatched, names-none, fits_more, needs-zero, needs-kind}
+use Rattle.search_sources.proofs.Answers.{cons-fits, needs-nil, needs-cons, needs-node, needs-unknown, needs-unmatched, fits_more, needs-zero, needs-kind}
 use Rattle.search_sources.proofs.Tokens.{class_token, ValueFor, needs_token, needs_no_token}
-use Rattle.search_levels.specs.Inner.Setting.{Asked, Truthful, Setting, Unnamed, Without, Named, value_at, Seeks, SeeksAll}
-use Rattle.search_levels.specs.Inner.Clauses.{Bound, MatchAsks, MatchGives}
+use Rattle.search_levels.specs.Inner.Setting.{Asked, Truthful, Unnamed, Without, Named, value_at, Seeks, SeeksAll}
+use Rattle.search_levels.specs.Inner.Clauses.{MatchAsks, MatchGives}
 use Rattle.search_levels.specs.Inner.Memory.{byte_for, memory_with, free_with}
 use Rattle.search_levels.proofs.Truths.{byte_says, kept_true}
 

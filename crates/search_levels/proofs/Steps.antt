@@ -1,24 +1,21 @@
 -- The steps of the match: a law for each return of the functions of `clause`.
-use Prim.Native.Nat.{ℕ, zero, suc, ◌+◌, ◌-◌, ◌≤◌, ◌<◌}
+use Prim.Native.Nat.{ℕ, ◌+◌, ◌-◌, ◌≤◌, ◌<◌}
 use mathlib.Core.Path.{◌≡◌, refl, ap, sym, ◌∙◌}
-use mathlib.Core.Bool.{Bool, true, false, cond}
-use mathlib.Core.List.{List, [], ◌∷◌, ◌++◌}
-use mathlib.Core.Option.{Option, none, some}
+use mathlib.Core.List.{List}
+use mathlib.Core.Option.{none, some}
 use native.Mathlib.Omega.{arith}
 use native.Mathlib.Decide.{ℕ_discrete}
-use lib.Dec.{eqb}
 use lib.ListN.{length, get_or, set, take, drop, length-set}
 use lib.Seq.{get_or-set_same, get_or-set_other}
 use borrow.Author.Tests.{eq-eqb, ne_eqb}
-use Rattle.format_fields.proofs.Truth.{none_some, some_inj}
-use Rattle.tree_reader.specs.Code.{Code, argument, Codes, nil, cons}
+use Rattle.tree_reader.specs.Code.{Code, nil}
 use Rattle.tree_reader.specs.Syntax.{write, tree}
 use Rattle.tree_reader.proofs.Larger.{apart}
 use Rattle.format_translation.specs.Translation.{Translation, mapped}
-use Rattle.tree_index.specs.Inner.Lying.{Index, Lies, There}
+use Rattle.tree_index.specs.Inner.Lying.{Lies, There}
 use Rattle.tree_index.proofs.Lying.{past_inside}
 use Rattle.search_sources.specs.Inner.Goals.{Goal}
-use Rattle.search_sources.specs.Inner.Matching.{bind, Solves, Alike}
+use Rattle.search_sources.specs.Inner.Matching.{bind}
 use Rattle.search_sources.proofs.Matching.{step_known, no_known, step_new, bind_here, bind_other}
 use Rattle.search_levels.specs.Inner.Setting.{Asked}
 use Rattle.search_levels.specs.Inner.Clauses.{Bound, ArgumentAsks, ArgumentGives, width}

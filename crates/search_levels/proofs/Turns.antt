@@ -2,17 +2,14 @@
 use Prim.Native.Nat.{ℕ, zero, suc, ◌+◌, ◌-◌, ◌≤◌, ◌<◌}
 use mathlib.Core.Path.{◌≡◌, refl, ap, sym, ◌∙◌}
 use mathlib.Core.Logic.{◌⊎◌, inl, inr}
-use mathlib.Core.Bool.{Bool, true, false}
 use mathlib.Core.List.{List, [], ◌∷◌, map}
 use mathlib.Core.Option
-use mathlib.Core.Option.{Option, none, some}
+use mathlib.Core.Option.{Option, some}
 use native.Mathlib.Omega.{arith}
-use lib.ListN.{length, get_or, get_elem?, drop}
+use lib.ListN.{length, get_or, get_elem?}
 use Rattle.format_fields.proofs.Truth.{none_some}
-use Rattle.tree_reader.specs.Code.{Code, argument, Codes, nil, cons}
+use Rattle.tree_reader.specs.Code.{Codes}
 use Rattle.tree_reader.specs.Typing.{Uses, kind_by}
-use Rattle.tree_reader.specs.Syntax.{write, tree}
-use Rattle.tree_reader.proofs.RoundTrip.{Apart}
 use Rattle.tree_reader.proofs.Larger.{apart}
 use Rattle.format_translation.specs.Translation.{Translation, Body, mapping_of, mapped}
 use Rattle.format_translation.specs.Running.{Replacing}

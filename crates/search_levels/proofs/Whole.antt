@@ -1,14 +1,14 @@
 -- The match of a whole clause: a law for each return and turn of `matches`.
 use Prim.Native.Nat.{ℕ, zero, suc, ◌+◌, ◌-◌, ◌≤◌, ◌<◌}
 use mathlib.Core.Path.{◌≡◌, refl, ap, sym, ◌∙◌}
-use mathlib.Core.Bool.{Bool, true, false}
+use mathlib.Core.Bool.{true, false}
 use mathlib.Core.List.{List, [], ◌∷◌, ◌++◌, map, append-nil}
-use mathlib.Core.Option.{Option, none, some}
+use mathlib.Core.Option.{none, some}
 use native.Mathlib.Omega.{arith}
-use lib.ListN.{length, get_or, drop}
+use lib.ListN.{length}
 use Rattle.format_fields.specs.Lists.{all}
 use Rattle.format_fields.proofs.Truth.{none_some, false_true, both_and, is_some_lem}
-use Rattle.format_language.specs.Language.{production_key, is_in}
+use Rattle.format_language.specs.Language.{is_in}
 use Rattle.format_language.proofs.Lookup.{arguments_mem, result_in}
 use Rattle.tree_reader.specs.Code.{Code, node, token, argument, Codes, nil, cons, levels}
 use Rattle.tree_reader.specs.Typing.{Typed, TypedAll, typed_nil, typed_cons}
@@ -16,11 +16,10 @@ use Rattle.tree_reader.specs.Syntax.{write, write_all, tree, code}
 use Rattle.format_translation.specs.Translation.{Translation, mapping_of, mapped}
 use Rattle.format_translation.specs.Running.{clauses_of}
 use Rattle.format_translation.proofs.Fitting.{uses_are}
-use Rattle.run_table.specs.Inner.Stands.{Stands}
-use Rattle.run_table.specs.Inner.Table.{body_start, body_byte, index_entry, clause_entry, Production, Clause}
+use Rattle.run_table.specs.Inner.Table.{body_byte, Production, Clause}
 use Rattle.tree_index.specs.Inner.Lying.{Lies, LieAll}
 use Rattle.search_sources.specs.Inner.Goals.{Goal, Meets, Matches}
-use Rattle.search_sources.specs.Inner.Matching.{nothing_bound, Solves, Alike}
+use Rattle.search_sources.specs.Inner.Matching.{nothing_bound, Alike}
 use Rattle.search_sources.proofs.Matching.{alike_same, alike_then, matched, unmatched, matches_none}
 use Rattle.search_levels.specs.Inner.Setting.{Asked}
 use Rattle.search_levels.specs.Inner.Clauses.{Bound, Pending, width, StepAsks, StepGives, MatchAsks, MatchGives}

@@ -1,17 +1,13 @@
 -- The first source tree found, or none: a law for each return of `find`.
-use Prim.Native.Nat.{ℕ, zero, suc, min, ◌+◌, ◌≤◌, ◌<◌}
-use mathlib.Core.Path.{◌≡◌, refl, ap, sym, ◌∙◌}
-use mathlib.Core.Bool.{Bool, true, false}
-use mathlib.Core.List.{List, [], ◌∷◌, ◌++◌}
+use Prim.Native.Nat.{ℕ, min, ◌+◌, ◌≤◌, ◌<◌}
+use mathlib.Core.Path.{◌≡◌, refl, ap, ◌∙◌}
+use mathlib.Core.List.{List, ◌++◌}
 use mathlib.Core.Option.{Option, none, some}
 use native.Mathlib.Omega.{arith}
-use lib.ListN.{length, get_or, drop}
-use lib.Dec.{ltb}
+use lib.ListN.{length, drop}
 use borrow.Author.Tests.{le-ltb, lt-ltb}
-use Rattle.outcome.specs.Outcome.{Result, value, refused, ◌>>=◌, written, output_after}
 use Rattle.outcome.specs.declared.Outcome.{Outcome}
 use Rattle.outcome.specs.declared.Outcome.TheVariants.{Accepted, Refused}
-use Rattle.outcome.specs.declared.Reason.{Reason}
 use Rattle.outcome.specs.declared.Reason.TheVariants.{NoSource, OutputTooShort}
 use Rattle.format_fields.specs.Inner.Writing.{spliced}
 use Rattle.tree_reader.specs.Code.{Code}
@@ -19,16 +15,15 @@ use Rattle.tree_reader.specs.Syntax.{write, tree}
 use Rattle.tree_reader.proofs.Larger.{apart}
 use Rattle.format_translation.specs.Translation.{Translation, mapping_of}
 use Rattle.format_translation.specs.Running.{clauses_of}
-use Rattle.format_translation.specs.Operations.{fitted}
 use Rattle.format_translation.proofs.Preserved.{Carries}
 use Rattle.format_translation.proofs.Fitting.{fit_carries}
 use Rattle.run_table.proofs.Clauses as Clauses
-use Rattle.search_sources.specs.Inner.Goals.{Goal, Fits, First}
+use Rattle.search_sources.specs.Inner.Goals.{Fits, First}
 use Rattle.search_sources.specs.Inner.Levels.{Needs}
 use Rattle.search_sources.proofs.Answers.{fits_more}
 use Rattle.search_levels.specs.Inner.Setting.{Seeks}
 use Rattle.search_sources.specs.Sources.{search_of}
-use Rattle.search_sources.specs.Operations.{found, found_in}
+use Rattle.search_sources.specs.Operations.{found_in}
 use Rattle.search_sources.proofs.Finding.{search_first, search_none}
 use Rattle.search_first.specs.Inner.Puts.{Puts}
 use Rattle.search_operation.specs.Inner.Finding.{Rooted, Answers}

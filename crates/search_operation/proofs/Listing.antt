@@ -3,13 +3,13 @@ use Prim.Native.Nat.{ℕ, zero, suc, ◌+◌, ◌-◌, ◌*◌, ◌≤◌, ◌<�
 use mathlib.Core.Path.{◌≡◌, refl, ap, sym, ◌∙◌}
 use mathlib.Core.List.{List}
 use mathlib.Core.Option
-use mathlib.Core.Option.{Option, none, some}
+use mathlib.Core.Option.{Option}
 use native.Mathlib.Omega.{arith}
 use native.Mathlib.Decide.{ℕ_discrete}
 use lib.ListN.{length, get_or, set, length-set}
 use lib.Seq.{get_or-set_same, get_or-set_other}
 use Rattle.tree_reader.specs.Inner.Positions.{mapped_in, kind_before}
-use Rattle.format_translation.specs.Translation.{Body, mapping_of, mapped}
+use Rattle.format_translation.specs.Translation.{Body, mapped}
 use Rattle.format_translation.specs.Inner.ItemIndex.{Mapped as UsesOf}
 use Rattle.search_levels.specs.Inner.Setting.{Unnamed}
 use Rattle.search_operation.specs.Inner.Finding.{Mapped}

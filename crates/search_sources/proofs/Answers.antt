@@ -1,15 +1,15 @@
 -- The least levels and the first trees, step by step: of operands, of a name, of the names of a kind, of a class.
-use Prim.Native.Nat.{ℕ, zero, suc, max, ◌+◌, ◌≤◌, ◌<◌}
+use Prim.Native.Nat.{ℕ, zero, suc, max, ◌≤◌, ◌<◌}
 use mathlib.Core.Path.{◌≡◌, refl, ap, sym, ◌∙◌}
 use mathlib.Core.Logic.{inl}
 use mathlib.Core.List.{List, [], ◌∷◌}
-use mathlib.Core.Option.{Option, none, some}
+use mathlib.Core.Option.{none, some}
 use native.Mathlib.Omega.{arith}
 use Rattle.format_fields.proofs.Truth.{none_some, some_inj}
-use Rattle.format_language.specs.Language.{Language, Range, range_of, arguments_of, in_range}
-use Rattle.tree_reader.specs.Code.{Code, node, token, argument, Codes, nil, cons, levels, levels_all}
+use Rattle.format_language.specs.Language.{Language, range_of, arguments_of}
+use Rattle.tree_reader.specs.Code.{Code, node, Codes, nil, cons, levels, levels_all}
 use Rattle.tree_reader.specs.Typing.{kind_at, Typed, TypedAll, typed_node, typed_token, typed_argument, typed_nil, typed_cons}
-use Rattle.format_translation.specs.Running.{Clauses, run}
+use Rattle.format_translation.specs.Running.{Clauses}
 use Rattle.search_sources.specs.Inner.Order.{UptoAll}
 use Rattle.search_sources.specs.Inner.Goals.{Goal, Meets, MeetsAll, Fits, FitsAll, First, FirstAll, Matches}
 use Rattle.search_sources.specs.Inner.Levels.{Needs, NeedsAll, NeedsNamed}

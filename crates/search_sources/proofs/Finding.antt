@@ -1,12 +1,12 @@
 -- The first source tree by the definitions is the first by its levels, names and operands.
 use Prim.Native.Nat.{ℕ, max}
-use mathlib.Core.Path.{◌≡◌, refl, ap, sym, ◌∙◌}
-use mathlib.Core.Bool.{Bool, true, false}
-use mathlib.Core.List.{List, [], ◌∷◌, ◌++◌, map}
-use mathlib.Core.Option.{Option, none, some}
+use mathlib.Core.Path.{◌≡◌, ap, sym, ◌∙◌}
+use mathlib.Core.Bool.{true}
+use mathlib.Core.List.{List, [], ◌++◌}
+use mathlib.Core.Option.{none, some}
 use native.Mathlib.Omega.{arith}
 use Rattle.format_fields.specs.Lists.{keep, same_numbers}
-use Rattle.format_fields.proofs.Truth.{Mem, none_some, some_inj, keep_cases, mem_keep, mem_map, map_cases, numbers_equal, equal_numbers}
+use Rattle.format_fields.proofs.Truth.{Mem, keep_cases, mem_keep, mem_map, map_cases, numbers_equal, equal_numbers}
 use Rattle.format_language.specs.Language.{Language, is_in}
 use Rattle.format_language.proofs.Lookup.{range_mem, arguments_mem, class_in, result_in}
 use Rattle.tree_reader.specs.Code.{Code, levels}
@@ -16,10 +16,10 @@ use Rattle.tree_reader.proofs.RoundTrip.{Apart, round, as_tree}
 use Rattle.format_translation.specs.Translation.{Translation, mapping_of, mapped}
 use Rattle.format_translation.specs.Running.{clauses_of, run, transform}
 use Rattle.format_translation.proofs.Preserved.{Carries, kept_tree, typed_run}
-use Rattle.search_sources.specs.Inner.Goals.{Goal, Fits, First}
+use Rattle.search_sources.specs.Inner.Goals.{Fits, First}
 use Rattle.search_sources.proofs.Answers.{Named, no_kind}
 use Rattle.search_sources.specs.Trees.{trees_within}
-use Rattle.search_sources.specs.Sources.{runs_to, sources_of, search_of, first_of, before}
+use Rattle.search_sources.specs.Sources.{runs_to, sources_of, search_of, before}
 use Rattle.search_sources.proofs.Ordering.{FirstIn, first_in, least_upto}
 use Rattle.search_sources.proofs.Within.{within_legal, legal_within}
 

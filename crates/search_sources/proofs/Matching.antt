@@ -1,17 +1,16 @@
 -- The match of a clause's code with a tree, one step for each form of code, and what a whole match says of a production's trees.
-use Prim.Native.Nat.{ℕ, zero, suc, ◌<◌}
+use Prim.Native.Nat.{ℕ, zero, suc}
 use mathlib.Core.Path.{◌≡◌, refl, ap, sym, ◌∙◌}
 use mathlib.Core.Bool.{Bool, true, false, cond}
-use mathlib.Core.List.{List, [], ◌∷◌, ◌++◌, append_assoc}
-use mathlib.Core.Option.{Option, none, some}
+use mathlib.Core.List.{List, [], ◌++◌, append_assoc}
+use mathlib.Core.Option.{none, some}
 use native.Mathlib.Omega.{arith}
 use lib.Dec.{eqb}
-use lib.ListN.{length}
 use borrow.Author.Tests.{eqb-true, eqb-false, eq-eqb}
 use Rattle.format_fields.proofs.Truth.{none_some, some_inj, by_test}
 use Rattle.format_language.specs.Language.{Language}
 use Rattle.tree_reader.specs.Code.{Code, node, token, argument, Codes, nil, cons}
-use Rattle.tree_reader.specs.Typing.{Uses, Typed, TypedAll, typed_nil, typed_cons}
+use Rattle.tree_reader.specs.Typing.{Uses, TypedAll, typed_nil, typed_cons}
 use Rattle.tree_reader.specs.Syntax.{Syntax, write, write_all}
 use Rattle.format_translation.specs.Running.{Replacing, substitute, substitute_all, from_one, Clauses, run, run_operand}
 use Rattle.search_sources.specs.Inner.Goals.{Goal, Meets, MeetsAll, Matches}

@@ -1,20 +1,20 @@
 -- Byte order of trees of one kind, and the first of lists of bytes.
-use Prim.Native.Nat.{ℕ, zero, suc, ◌≤◌, ◌<◌}
+use Prim.Native.Nat.{ℕ, ◌<◌}
 use mathlib.Core.Path.{◌≡◌, refl, ap, sym, ◌∙◌}
 use mathlib.Core.Logic.{◌⊎◌, inl, inr}
-use mathlib.Core.Bool.{Bool, true, false, cond, ◌&&◌, ◌||◌}
+use mathlib.Core.Bool.{Bool, true, false, cond, ◌&&◌}
 use mathlib.Core.List.{List, [], ◌∷◌}
 use mathlib.Core.Option.{Option, none, some}
 use native.Mathlib.Omega.{arith}
 use lib.Dec.{ltb, eqb}
-use borrow.Author.Tests.{ltb-true, ltb-false, lt-ltb, eqb-true, eqb-false, eq-eqb}
-use Rattle.format_fields.proofs.Truth.{Mem, false_true, none_some, some_inj, or_cases, or_left, or_right, or_false, and_both, both_and, refuted, not_both}
+use borrow.Author.Tests.{ltb-true, lt-ltb, eqb-true, eq-eqb}
+use Rattle.format_fields.proofs.Truth.{Mem, false_true, none_some, some_inj, or_cases, or_left, or_right, and_both, both_and, refuted, not_both}
 use Rattle.format_language.specs.Language.{Language, arguments_of}
-use Rattle.tree_reader.specs.Code.{Code, node, token, Codes, nil, cons}
+use Rattle.tree_reader.specs.Code.{Code, node, token, Codes, cons}
 use Rattle.tree_reader.specs.Typing.{Typed, TypedAll, typed_node, typed_token, typed_argument, typed_nil, typed_cons}
 use Rattle.tree_reader.specs.Syntax.{write, tree}
 use Rattle.tree_reader.proofs.RoundTrip.{Apart}
-use Rattle.search_sources.specs.Inner.Order.{Earlier, EarlierAll, by_name, by_operands, by_value, at_first, after, Upto, UptoAll, Parts, here, on}
+use Rattle.search_sources.specs.Inner.Order.{Earlier, EarlierAll, by_name, by_operands, by_value, at_first, after, Upto, Parts, here, on}
 use Rattle.search_sources.proofs.Order.{Tri, below, level, above, tri, earlier_parts}
 use Rattle.search_sources.proofs.Answers.{no_kind}
 use Rattle.search_sources.specs.Sources.{before, earlier, first_of}

@@ -1,21 +1,20 @@
 -- The least levels and the first trees of a class: a token is no level.
-use Prim.Native.Nat.{ℕ, zero, suc, ◌-◌, ◌%◌, ◌≤◌, ◌<◌}
+use Prim.Native.Nat.{ℕ, suc, ◌-◌, ◌%◌, ◌≤◌}
 use mathlib.Core.Path.{◌≡◌, refl, ap, sym, ◌∙◌}
 use mathlib.Core.Logic.{inl}
 use mathlib.Core.Bool.{Bool, true, false, ◌&&◌}
-use mathlib.Core.List.{List, []}
-use mathlib.Core.Option.{Option, none, some}
+use mathlib.Core.List.{[]}
+use mathlib.Core.Option.{none, some}
 use native.Mathlib.Omega.{arith}
 use native.Mathlib.Nat.{zero-mod}
 use lib.Dec.{leb, eqb}
 use borrow.Author.Tests.{leb-true, le-leb, eq-eqb}
 use Rattle.format_fields.proofs.Truth.{none_some, some_inj, false_true, and_both, both_and}
 use Rattle.format_language.specs.Language.{Language, Range, range_of, in_range}
-use Rattle.tree_reader.specs.Code.{Code, node, token, argument, Codes, levels}
-use Rattle.tree_reader.specs.Typing.{kind_at, Typed, typed_node, typed_token, typed_argument}
+use Rattle.tree_reader.specs.Code.{Code, token, levels}
+use Rattle.tree_reader.specs.Typing.{Typed, typed_node, typed_token, typed_argument}
 use Rattle.tree_reader.proofs.RoundTrip.{Apart}
 use Rattle.format_translation.specs.Running.{Clauses, run}
-use Rattle.search_sources.specs.Inner.Order.{Upto}
 use Rattle.search_sources.specs.Inner.Goals.{Goal, Meets, Fits, First}
 use Rattle.search_sources.specs.Inner.Levels.{Needs}
 use Rattle.search_sources.proofs.Order.{upto_token}

@@ -1,17 +1,17 @@
 -- The trees within the levels are exactly the legal ones.
-use Prim.Native.Nat.{ℕ, zero, suc, max, ◌+◌, ◌-◌, ◌%◌, ◌≤◌, ◌<◌}
-use mathlib.Core.Path.{◌≡◌, refl, ap, sym, ◌∙◌}
+use Prim.Native.Nat.{ℕ, zero, suc, ◌+◌, ◌-◌, ◌≤◌}
+use mathlib.Core.Path.{◌≡◌, refl}
 use mathlib.Core.Logic.{inl, inr}
-use mathlib.Core.Bool.{Bool, true, false, ◌&&◌}
+use mathlib.Core.Bool.{true}
 use mathlib.Core.List.{List, [], ◌∷◌, map}
 use mathlib.Core.Option.{Option, none, some}
 use native.Mathlib.Omega.{arith}
-use lib.Dec.{leb, eqb}
+use lib.Dec.{leb}
 use borrow.Author.Tests.{leb-true}
-use Rattle.format_fields.specs.Lists.{keep, concat_map, count_up}
-use Rattle.format_fields.proofs.Truth.{Mem, none_some, some_inj, and_both, keep_cases, mem_keep, mem_map, map_cases, concat_cases, mem_concat, mem_count, count_mem}
+use Rattle.format_fields.specs.Lists.{keep, count_up}
+use Rattle.format_fields.proofs.Truth.{Mem, and_both, keep_cases, mem_keep, mem_map, map_cases, concat_cases, mem_concat, mem_count}
 use Rattle.format_language.specs.Language.{Language, Range, range_of, arguments_of, in_range}
-use Rattle.tree_reader.specs.Code.{Code, node, token, Codes, nil, cons, levels, levels_all}
+use Rattle.tree_reader.specs.Code.{Code, node, token, Codes, cons, levels, levels_all}
 use Rattle.tree_reader.specs.Typing.{Typed, TypedAll, typed_node, typed_token, typed_argument, typed_nil, typed_cons}
 use Rattle.tree_reader.proofs.RoundTrip.{Apart}
 use Rattle.search_sources.proofs.Answers.{Named, no_kind}

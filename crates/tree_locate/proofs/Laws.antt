@@ -16,7 +16,6 @@ use Rattle.format_language.specs.Language.{Language, is_in}
 use Rattle.format_language.specs.LanguageFile.{language_of}
 use Rattle.tree_reader.specs.Code.{Code}
 use Rattle.tree_reader.specs.Syntax.{Read, done, read, write, tree}
-use Rattle.tree_reader.specs.Syntax as Meant
 use Rattle.tree_reader.specs.Operations.{tree_levels, whole_tree, tree_of, check_tree}
 use Rattle.tree_reader.specs.Inner.Positions.{rest_of}
 use Rattle.tree_reader.proofs.Larger.{apart}

@@ -20,9 +20,9 @@ use Rattle.format_language.specs.Language.{Language, arguments_of}
 use Rattle.tree_reader.specs.Code.{Code, node, token, argument, Codes, nil, cons}
 use Rattle.tree_reader.specs.Syntax.{done, tree, write, write_all, read_all, read}
 use Rattle.tree_reader.specs.Operations.{tree_levels}
-use Rattle.tree_reader.specs.Inner.Index.{Sound, Indexed}
+use Rattle.tree_reader.specs.Inner.Index.{Indexed}
 use Rattle.tree_reader.specs.Inner.Positions as At
-use Rattle.tree_reader.specs.Inner.Positions.{production_place, EndsBy, KindsIn, rest_at, rest_of}
+use Rattle.tree_reader.specs.Inner.Positions.{production_place, EndsBy, rest_at, rest_of}
 use Rattle.tree_reader.specs.declared.node.Read.{Read}
 use Rattle.tree_reader.specs.declared.node.Read.TheVariants.{End, Deep, Broken}
 use Rattle.tree_reader.specs.declared.node.Syntax.TheVariants.{Tree}

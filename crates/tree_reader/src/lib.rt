@@ -1,5 +1,6 @@
 // The index of a language and the reader of typed codes and trees.
 #![tactic(auto)]
+
 pub mod ends;
 pub mod index;
 pub mod kinds;

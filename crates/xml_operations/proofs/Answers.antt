@@ -1,7 +1,7 @@
 -- What export answers: a law for each return of `export_tree` and `export`.
-use Prim.Native.Nat.{ℕ, ◌+◌, ◌<◌, ◌≤◌}
+use Prim.Native.Nat.{ℕ, ◌<◌, ◌≤◌}
 use mathlib.Core.Path.{◌≡◌, refl, sym, ap, ◌∙◌}
-use mathlib.Core.List.{List, [], ◌∷◌, ◌++◌, append-nil}
+use mathlib.Core.List.{List, [], ◌∷◌, append-nil}
 use native.Mathlib.Omega.{arith}
 use lib.ListN.{length, drop, drop_of_length-le}
 use lib.Dec.{leb}
@@ -20,7 +20,6 @@ use Rattle.tree_reader.specs.Syntax.{Read, done, deep, broken, and_then, read, r
 use Rattle.tree_reader.specs.Operations.{tree_levels, whole_tree}
 use Rattle.tree_reader.specs.Inner.Index.{Indexed}
 use Rattle.format_translation.specs.Operations.{fitted}
-use Rattle.check_operations.specs.Inner.Answering.{Gives}
 use Rattle.check_operations.proofs.Reading.{same_done, deep_not, broken_not, then_done}
 use Rattle.check_operations.specs.Inner.Opening.{rooted_of}
 use Rattle.check_operations.proofs.Opening.{rooted_tree_then}

@@ -1,8 +1,8 @@
 -- Export and import undo each other: the laws of specs/Laws.antt.
 use Prim.Native.Nat.{ℕ}
-use mathlib.Core.Path.{◌≡◌, refl, sym, ap, ◌∙◌}
-use mathlib.Core.Bool.{true, false, not}
-use mathlib.Core.List.{List, [], ◌∷◌, ◌++◌, append-nil}
+use mathlib.Core.Path.{◌≡◌, sym, ap, ◌∙◌}
+use mathlib.Core.Bool.{false, not}
+use mathlib.Core.List.{List, [], ◌∷◌, append-nil}
 use Rattle.outcome.specs.Outcome.{value}
 use Rattle.outcome.specs.declared.Reason.TheVariants.{UnknownRoot}
 use Rattle.format_fields.proofs.Codec.{refused_value, value_inj}

@@ -1,12 +1,12 @@
 -- Tags and decimals, written.
 use Prim.Native.Nat.{ℕ, suc, ◌+◌, ◌*◌, ◌/◌, ◌%◌, ◌-◌, ◌<◌, ◌≤◌}
-use mathlib.Core.Path.{◌≡◌, refl, sym, ap, ◌∙◌}
+use mathlib.Core.Path.{◌≡◌, refl, ap, ◌∙◌}
 use mathlib.Core.List.{List, [], ◌∷◌, ◌++◌, append_assoc}
 use native.Mathlib.Omega.{arith}
 use lib.ListN.{length, set, length-append}
 use Rattle.format_fields.specs.Inner.Writing.{Written}
 use Rattle.format_fields.specs.Decimal.{decimal}
-use Rattle.xml_text.specs.Text.{node_tag, token_tag, open_node, close_node, open_token, close_token, point, tag_end}
+use Rattle.xml_text.specs.Text.{node_tag, token_tag, open_token, close_token, point, tag_end}
 use Rattle.xml_text.proofs.Stores.{store_in}
 use Rattle.format_fields.proofs.Decimal.{decimal_small, decimal_large, decimal_two}
 

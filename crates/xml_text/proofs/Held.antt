@@ -1,11 +1,11 @@
 -- An export holds the bytes of its tree.
-use Prim.Native.Nat.{ℕ, ◌+◌, ◌<◌, ◌≤◌}
+use Prim.Native.Nat.{ℕ, ◌+◌, ◌<◌}
 use mathlib.Core.Path.{◌≡◌, refl, sym, ap, ◌∙◌}
-use mathlib.Core.Bool.{true, false, ◌&&◌}
-use mathlib.Core.List.{List, [], ◌∷◌, ◌++◌, map, append_assoc, append-nil}
-use mathlib.Core.Option.{Option, none, some}
+use mathlib.Core.Bool.{true}
+use mathlib.Core.List.{List, [], ◌++◌, map, append_assoc, append-nil}
+use mathlib.Core.Option.{none, some}
 use native.Mathlib.Omega.{arith}
-use lib.ListN.{length, get_or}
+use lib.ListN.{get_or}
 use lib.Dec.{leb, eqb}
 use borrow.Author.Tests.{leb-true}
 use Rattle.format_fields.specs.Inner.Places.{places}
@@ -15,7 +15,7 @@ use Rattle.format_language.specs.Language.{Language, Range, range_at, range_of, 
 use Rattle.format_language.specs.LanguageFile.{entries_of}
 use Rattle.format_language.specs.Inner.Entries.{entry_at, class_range}
 use Rattle.format_language.proofs.Holds.{holds_entries}
-use Rattle.tree_reader.specs.Code.{Code, node, token, argument, Codes, nil, cons}
+use Rattle.tree_reader.specs.Code.{Code, token, Codes}
 use Rattle.tree_reader.specs.Typing.{Typed, TypedAll, typed_node, typed_token, typed_argument, typed_nil, typed_cons}
 use Rattle.tree_reader.specs.Syntax.{done, write, write_all, tree}
 use Rattle.format_fields.specs.Decimal.{decimal}

@@ -1,15 +1,15 @@
 -- Reading an export gives the tree, and what was read is the export of the tree that it gave.
 use Prim.Native.Nat.{ℕ, zero, suc, ◌+◌, ◌≤◌}
 use mathlib.Core.Path.{◌≡◌, refl, sym, ap, ◌∙◌}
-use mathlib.Core.Bool.{true, false}
+use mathlib.Core.Bool.{true}
 use mathlib.Core.List.{List, [], ◌∷◌, ◌++◌, append_assoc}
-use mathlib.Core.Option.{Option, none, some, get_or}
+use mathlib.Core.Option.{Option, none, some}
 use native.Mathlib.Omega.{arith}
 use Rattle.format_fields.proofs.Truth.{by_test, none_some}
 use Rattle.format_language.specs.Language.{Language, Range, range_of, arguments_of, in_range}
-use Rattle.tree_reader.specs.Code.{Code, node, token, argument, Codes, nil, cons, levels, levels_all}
+use Rattle.tree_reader.specs.Code.{Code, node, token, Codes, nil, cons, levels, levels_all}
 use Rattle.tree_reader.specs.Typing.{kind_at, Typed, TypedAll, typed_node, typed_token, typed_argument, typed_nil, typed_cons}
-use Rattle.tree_reader.specs.Syntax.{Read, done, deep, broken, and_then, read_all}
+use Rattle.tree_reader.specs.Syntax.{Read, done, deep, read_all}
 use Rattle.tree_reader.proofs.RoundTrip.{Apart}
 use Rattle.format_fields.specs.Decimal.{decimal}
 use Rattle.xml_text.specs.Text.{open_node, close_node, open_token, close_token, point, tag_end, node_tag, token_tag, kinds_of, export, export_all}

@@ -4,12 +4,12 @@ use mathlib.Core.Path.{◌≡◌, refl, sym, ap, ◌∙◌}
 use mathlib.Core.Bool.{Bool, true, false}
 use mathlib.Core.List.{List, [], ◌∷◌, ◌++◌}
 use native.Mathlib.Omega.{arith}
-use lib.ListN.{length, get_or, take, drop, drop_of_length-le, length-append, length-take, length-drop}
+use lib.ListN.{length, get_or, drop, drop_of_length-le, length-append, length-take, length-drop}
 use lib.Seq.{get_or-take, get_or-drop, drop-drop, take_at}
 use lib.Dec.{leb, eqb}
-use borrow.Author.Tests.{le-leb, lt-leb, leb-true, leb-false, eq-eqb, ne_eqb, eqb-true, eqb-false}
+use borrow.Author.Tests.{le-leb, lt-leb, eq-eqb, ne_eqb, eqb-true, eqb-false}
 use Rattle.format_fields.specs.Fields.{pair_at}
-use Rattle.format_fields.proofs.Truth.{by_test, and_both, not_both}
+use Rattle.format_fields.proofs.Truth.{by_test}
 use Rattle.format_fields.proofs.Split.{front}
 use Rattle.format_language.specs.Language.{Range, in_range}
 use Rattle.format_language.specs.Inner.Entries.{class_range}
@@ -22,7 +22,7 @@ use Rattle.xml_text.specs.declared.scan.Place.{Place}
 use Rattle.xml_text.specs.declared.scan.Place.TheVariants.{At, Nothing}
 use Rattle.xml_text.specs.declared.scan.Number.{Number}
 use Rattle.xml_text.specs.declared.scan.Number.TheVariants as N
-use Rattle.xml_text.specs.Inner.Scanning.{NoToken, TellsToken, begins, closes, Reached, Stands, NoNumber, Numbers, Tokens}
+use Rattle.xml_text.specs.Inner.Scanning.{NoToken, TellsToken, begins, closes, Stands, NoNumber, Numbers, Tokens}
 use Rattle.format_fields.proofs.Decimal.{decimal_small, decimal_two, decimal_some}
 use Rattle.xml_text.proofs.Decimal.{digit_range, number_sound, word_sound}
 use Rattle.xml_text.proofs.Words.{word_shallow, number_shallow, tag_word, ends, opening_word, begins_cut}

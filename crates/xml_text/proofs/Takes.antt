@@ -1,15 +1,15 @@
 -- What a text holds, and a law for each return and loop turn of the functions of contents.rt.
 use Prim.Native.Nat.{ℕ, zero, suc, ◌+◌, ◌*◌, ◌/◌, ◌%◌, ◌-◌, ◌<◌, ◌≤◌}
 use mathlib.Core.Path.{◌≡◌, refl, sym, ap, ◌∙◌}
-use mathlib.Core.Bool.{Bool, true, false}
+use mathlib.Core.Bool.{Bool, true}
 use mathlib.Core.List.{List, [], ◌∷◌, ◌++◌, append_assoc, append-nil}
 use native.Mathlib.Omega.{arith}
 use lib.ListN.{length, get_or, drop, set, drop_of_length-le, length-append, length-drop, length-set}
 use lib.Seq.{get_or-drop, drop-drop, drop_at}
-use lib.Dec.{ltb, leb, eqb}
+use lib.Dec.{ltb, leb}
 use borrow.Author.Tests.{ltb-true, ltb-false, le-leb, eq-eqb, ne_eqb}
 use Rattle.format_fields.specs.Fields.{two_bytes}
-use Rattle.format_fields.specs.Inner.Writing.{spliced, Written}
+use Rattle.format_fields.specs.Inner.Writing.{spliced}
 use Rattle.format_fields.proofs.Truth.{by_test}
 use Rattle.format_fields.proofs.Split.{front, byte_drop}
 use Rattle.format_fields.proofs.Splices.{nothing_spliced}

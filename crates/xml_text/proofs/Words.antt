@@ -1,11 +1,10 @@
 -- Tags as given texts: a reading that takes one text off the front, and fails where another stands there, reads that text.
-use Prim.Native.Nat.{ℕ, zero, suc, ◌+◌, ◌*◌, ◌-◌, ◌<◌, ◌≤◌}
+use Prim.Native.Nat.{ℕ, ◌+◌, ◌*◌, ◌-◌, ◌<◌}
 use mathlib.Core.Path.{◌≡◌, refl, sym, ap, ◌∙◌}
-use mathlib.Core.Bool.{true, false}
 use mathlib.Core.List.{List, [], ◌∷◌, ◌++◌, append_assoc}
 use native.Mathlib.Omega.{arith}
 use lib.ListN.{length, length-append}
-use lib.Dec.{leb, eqb}
+use lib.Dec.{eqb}
 use Rattle.format_fields.proofs.Truth.{by_test}
 use Rattle.tree_reader.specs.Syntax.{Read, done, deep, broken, and_then}
 use Rattle.format_fields.specs.Decimal.{decimal}

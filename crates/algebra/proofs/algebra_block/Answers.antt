@@ -1,5 +1,4 @@
 use Rattle.tree_block.proofs.Answers.{tells}
-use borrow.Author.Rules.{rules}
 use Rattle.algebra.proofs.algebra_block.Goals as goal
 
 pub returns : goal.returns

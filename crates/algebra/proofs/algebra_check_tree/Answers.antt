@@ -1,6 +1,5 @@
 use mathlib.Core.Path.{ap, ◌∙◌}
 use Rattle.outcome.specs.Outcome.{number_of}
-use borrow.Author.Rules.{rules}
 use Rattle.algebra.proofs.algebra_check_tree.Goals as goal
 
 pub returns : goal.returns

@@ -1,5 +1,4 @@
 use Rattle.tree_edit.proofs.Planning.{tells}
-use borrow.Author.Rules.{rules}
 use Rattle.algebra.proofs.algebra_edit.Goals as goal
 
 pub returns : goal.returns

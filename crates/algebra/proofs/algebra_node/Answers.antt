@@ -1,5 +1,4 @@
 use Rattle.tree_node.proofs.Answers.{node-told}
-use borrow.Author.Rules.{rules}
 use Rattle.algebra.proofs.algebra_node.Goals as goal
 
 pub returns : goal.returns

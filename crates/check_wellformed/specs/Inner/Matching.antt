@@ -1,9 +1,9 @@
 -- Source productions and clauses side by side: both stand by rising key, so that where each production has its clauses, one
 -- for each number of its result, and there is no other, their keys are the same, one for one.
-use Rattle.std.specs.Prelude.{ℕ, ◌+◌, ◌*◌, ◌<◌, ◌≤◌, ◌≡◌, Bool, true, false, List, [], ◌++◌, map, length, ltb}
+use Rattle.std.specs.Prelude.{ℕ, ◌+◌, ◌*◌, ◌<◌, ◌≤◌, ◌≡◌, Bool, true, false, List, [], ◌++◌, map, length}
 use Rattle.format_fields.specs.Lists.{all, concat_map, same_numbers}
 use Rattle.format_fields.specs.Keyed.{rising_from, rising}
-use Rattle.format_fields.specs.Inner.Places.{is_whole, places_from, places, key_at, order_at}
+use Rattle.format_fields.specs.Inner.Places.{places_from, places, key_at, order_at}
 use Rattle.format_language.specs.Language.{Entry, class, production, production_key}
 use Rattle.format_language.specs.Inner.Entries.{entry_whole, entry_at}
 use Rattle.format_translation.specs.Translation.{Body, numbers_of}

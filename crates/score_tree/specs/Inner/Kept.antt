@@ -1,6 +1,6 @@
 -- The figures of a load table by the positions of the language's bytes: where a production's field starts at p, its constant is
 -- kept at p + 4, where its name stands, and the factor of each argument where that argument's kind stands.
-use Rattle.std.specs.Prelude.{ℕ, ◌+◌, ◌-◌, ◌*◌, ◌<◌, ◌≤◌, ◌≡◌, Bool, true, false, ◌&&◌, List, length, get_or, eqb, ℤ, pos, nat_abs}
+use Rattle.std.specs.Prelude.{ℕ, ◌+◌, ◌*◌, ◌<◌, ◌≤◌, ◌≡◌, Bool, true, false, ◌&&◌, List, length, get_or, eqb, ℤ, pos, nat_abs}
 use Rattle.format_fields.specs.Lists.{any}
 use Rattle.format_fields.specs.Fields.{byte_at, pair_at}
 use Rattle.format_fields.specs.Inner.Places.{is_whole, places, WholeEnd}

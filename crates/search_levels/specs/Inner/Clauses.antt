@@ -2,7 +2,7 @@
 use Rattle.std.specs.Prelude.{ℕ, suc, ◌+◌, ◌<◌, ◌≤◌, ◌≡◌, Bool, true, false, cond, List, [], map, length, get_or, eqb}
 use Rattle.std.proofs.Math.Option.{some}
 use Rattle.format_language.specs.Language.{arguments_of, production_key}
-use Rattle.tree_reader.specs.Code.{Code, node, argument, Codes, nil, cons}
+use Rattle.tree_reader.specs.Code.{Code, node, argument, Codes, cons}
 use Rattle.tree_reader.specs.Typing.{Uses, TypedAll}
 use Rattle.tree_reader.specs.Syntax.{write, write_all, tree, code}
 use Rattle.format_translation.specs.Translation.{Translation, mapping_of, mapped}

@@ -1,10 +1,10 @@
 -- What the search knows: the translation by its table and its indexes, the target tree in bytes, and its memory.
 use Rattle.std.specs.Prelude.{ℕ, suc, ◌+◌, ◌*◌, ◌<◌, ◌≤◌, ◌≡◌, ◌⊎◌, true, false, cond, List, length, get_or, leb}
-use Rattle.std.proofs.Math.Option.{Option, none, some}
+use Rattle.std.proofs.Math.Option.{none, some}
 use Rattle.format_fields.specs.Fields.{pair_at}
 use Rattle.tree_reader.specs.Code.{Code, node, Codes}
 use Rattle.tree_reader.specs.Syntax as Syntax
-use Rattle.tree_reader.specs.Inner.Index.{Built, Indexed, index_length}
+use Rattle.tree_reader.specs.Inner.Index.{Built, Indexed}
 use Rattle.format_language.specs.Inner.Entries.{RisingEntries}
 use Rattle.format_language.specs.Language.{Language, Range, range_of, arguments_of, production_key, is_in, clashes}
 use Rattle.format_translation.specs.Translation.{Translation, mapping_of, mapped}

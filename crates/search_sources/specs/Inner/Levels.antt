@@ -1,5 +1,5 @@
 -- The least levels at which there is a tree for a goal: a number up to m, or m + 1 where m levels do not suffice.
-use Rattle.std.specs.Prelude.{ℕ, suc, ◌+◌, ◌-◌, ◌≤◌, ◌<◌, ◌≡◌, cond, List, eqb, leb}
+use Rattle.std.specs.Prelude.{ℕ, suc, ◌+◌, ◌-◌, ◌≤◌, ◌<◌, cond, List, eqb, leb}
 use Rattle.format_language.specs.Language.{Language}
 use Rattle.tree_reader.specs.Code.{Code, node, Codes}
 use Rattle.format_translation.specs.Running.{Clauses}

@@ -1,7 +1,7 @@
 -- A clause's code matched with a tree: codes and trees that are still to be compared, side by side, and what the arguments
 -- met so far are bound to.
 use Rattle.std.specs.Prelude.{ℕ, suc, ◌<◌, ◌≡◌, cond, List, eqb, length}
-use Rattle.std.proofs.Math.Option.{Option, none, some}
+use Rattle.std.proofs.Math.Option.{none, some}
 use Rattle.tree_reader.specs.Code.{Code, Codes, nil, cons}
 use Rattle.format_translation.specs.Running.{Replacing, substitute_all}
 use Rattle.search_sources.specs.Inner.Goals.{Goal}

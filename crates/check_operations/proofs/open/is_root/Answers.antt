@@ -1,5 +1,4 @@
 use Rattle.check_operations.proofs.Opening.{root_past}
-use borrow.Author.Rules.{rules}
 use Rattle.check_operations.proofs.open.is_root.Goals as goal
 
 pub returns-then-root-ge-KINDS : goal.returns-then-root-ge-KINDS

@@ -1,6 +1,4 @@
-use borrow.Author.Tests.{not-true, not-false}
-use Rattle.check_operations.proofs.Opening.{accepts, refused_language, open_refused, open_out, open_in, rooted_opened}
-use borrow.Author.Rules.{rules}
+use Rattle.check_operations.proofs.Opening.{accepts, open_refused, open_out, open_in, rooted_opened}
 use Rattle.check_operations.proofs.open.open_language.Goals as goal
 
 pub returns-in-Refused : goal.returns-in-Refused

@@ -1,9 +1,7 @@
 use native.Mathlib.Omega.{arith}
 use mathlib.Core.Path.{refl}
-use borrow.Author.Tests.{not-true, not-false}
 use Rattle.format_translation.proofs.Found.{heads_in, parted}
 use Rattle.check_operations.proofs.TranslationChain.{over_refused, over_none, broken_refused, broken_none, parts_there, pieces, pieces_checked, pieces_made}
-use borrow.Author.Rules.{rules}
 use Rattle.check_operations.proofs.translations.check_kept.Goals as goal
 
 pub returns-then-over_limit : goal.returns-then-over_limit

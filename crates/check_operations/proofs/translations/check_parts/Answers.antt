@@ -1,7 +1,5 @@
 use mathlib.Core.Path.{sym, ◌∙◌}
-use borrow.Author.Tests.{not-true, not-false}
 use Rattle.check_operations.proofs.TranslationChain.{order_refused, order_none, clash_refused, clash_none, formed_next}
-use borrow.Author.Rules.{rules}
 use Rattle.check_operations.proofs.translations.check_parts.Goals as goal
 
 pub returns-then-not-in_order : goal.returns-then-not-in_order
@@ -17,5 +15,8 @@ pub check_and_index-requires : goal.check_and_index-requires
 check_and_index-requires c = (c.requires.0, c.requires.1, c.requires.2, c.requires.3, (c.requires.4.0, c.requires.4.1, sym (c.in_order.ensures _ c.requires.4.1) ∙ c.if-not-in_order.false))
 
 pub returns : goal.returns
-returns c = record { is = λ f w. formed_next f _ (c.in_order.ensures f w) (c.if-not-in_order.false) _ (c.languages_clash.ensures _ f w) c.if-languages_clash.false (c.check_and_index.ensures.is f w (sym (c.in_order.ensures f w) ∙ c.if-not-in_order.false)); kept = let k = c.check_and_index.ensures.kept in
-      (k.0, λ f w e. (k.1, k.2, k.3 f w (sym (c.in_order.ensures f w) ∙ c.if-not-in_order.false))) }
+returns c = record {
+  is = λ f w. formed_next f _ (c.in_order.ensures f w) (c.if-not-in_order.false) _ (c.languages_clash.ensures _ f w) c.if-languages_clash.false (c.check_and_index.ensures.is f w (sym (c.in_order.ensures f w) ∙ c.if-not-in_order.false));
+  kept = let k = c.check_and_index.ensures.kept in
+      (k.0, λ f w e. (k.1, k.2, k.3 f w (sym (c.in_order.ensures f w) ∙ c.if-not-in_order.false)));
+}

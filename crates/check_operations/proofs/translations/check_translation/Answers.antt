@@ -1,6 +1,5 @@
 use mathlib.Core.Path.{refl}
 use Rattle.tree_reader.proofs.Lookup.{zeros}
-use borrow.Author.Rules.{rules}
 use Rattle.check_operations.proofs.translations.check_translation.Goals as goal
 
 pub check_kept-requires : goal.check_kept-requires

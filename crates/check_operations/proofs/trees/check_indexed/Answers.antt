@@ -1,7 +1,6 @@
 use native.Mathlib.Omega.{arith}
 use Rattle.check_operations.proofs.Opening.{unaccepted, opened_language, opened_ready}
 use Rattle.check_operations.proofs.TreeChain.{tree_refused, tree_read_lem, tree_indexed}
-use borrow.Author.Rules.{rules}
 use Rattle.check_operations.proofs.trees.check_indexed.Goals as goal
 
 pub returns-in-Refused : goal.returns-in-Refused

@@ -1,6 +1,5 @@
 use mathlib.Core.Path.{refl}
 use Rattle.tree_reader.proofs.Lookup.{zeros}
-use borrow.Author.Rules.{rules}
 use Rattle.check_operations.proofs.trees.check_tree.Goals as goal
 
 pub check_indexed-requires : goal.check_indexed-requires

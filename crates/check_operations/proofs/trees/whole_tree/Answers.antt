@@ -1,5 +1,4 @@
 use Rattle.check_operations.proofs.TreeChain.{whole_all, whole_more, whole_deep, whole_broken}
-use borrow.Author.Rules.{rules}
 use Rattle.check_operations.proofs.trees.whole_tree.Goals as goal
 
 pub returns-then-e-length : goal.returns-then-e-length

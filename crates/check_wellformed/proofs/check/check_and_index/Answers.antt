@@ -2,7 +2,6 @@ use native.Mathlib.Omega.{arith}
 use Prim.Native.Nat.{◌+◌}
 use Rattle.tree_reader.proofs.Built.{zero_behind}
 use Rattle.check_wellformed.proofs.Kept.{both_long, first_stays, made_ready}
-use borrow.Author.Rules.{rules}
 use Rattle.check_wellformed.proofs.check.check_and_index.Goals as goal
 
 pub put_index-requires : goal.put_index-requires

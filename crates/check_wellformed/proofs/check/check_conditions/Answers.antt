@@ -1,9 +1,7 @@
 use native.Mathlib.Omega.{arith}
-use borrow.Author.Tests.{not-true, not-false}
 use mathlib.Core.Path.{◌∙◌}
 use Rattle.check_wellformed.proofs.Formed.{formed_mapping, formed_clauses, formed_codes, formed_all}
 use Rattle.check_wellformed.proofs.Matching.{source_long, body_long, sides, match_is, clauses_are, codes_are}
-use borrow.Author.Rules.{rules}
 use Rattle.check_wellformed.proofs.check.check_conditions.Goals as goal
 
 pub returns-then-not-mapping_fits : goal.returns-then-not-mapping_fits

@@ -1,5 +1,4 @@
 use Rattle.check_wellformed.proofs.Kept.{ready_cut}
-use borrow.Author.Rules.{rules}
 use Rattle.check_wellformed.proofs.check.check_parted.Goals as goal
 
 pub check_conditions-requires : goal.check_conditions-requires

@@ -2,7 +2,6 @@ use native.Mathlib.Omega.{arith}
 use mathlib.Core.Path.{refl}
 use Rattle.tree_reader.proofs.Lookup.{zeros}
 use Rattle.check_wellformed.proofs.Kept.{own_ready}
-use borrow.Author.Rules.{rules}
 use Rattle.check_wellformed.proofs.check.check_well_formed.Goals as goal
 
 pub build-requires : goal.build-requires

@@ -1,7 +1,6 @@
 use native.Mathlib.Omega.{arith}
 use mathlib.Core.Path.{sym}
 use Rattle.check_wellformed.proofs.Coded.{zeros_front, filled_room, filled_uses, front_count}
-use borrow.Author.Rules.{rules}
 use Rattle.check_wellformed.proofs.check.fill_uses.Goals as goal
 
 pub slice_bounds-put_uses-end-2 : goal.slice_bounds-put_uses-end-2

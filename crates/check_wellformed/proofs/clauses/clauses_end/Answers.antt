@@ -1,10 +1,8 @@
-use borrow.Author.Rules.{rules}
 use native.Mathlib.Omega.{arith}
 use Prim.Native.Nat.{◌-◌}
-use lib.ListN.{length}
 use Rattle.format_fields.proofs.Places.{every_here}
 use Rattle.format_translation.proofs.Whole.{item_long}
-use Rattle.check_wellformed.proofs.Matching.{Clearing, clear_start, clear_done, clear_past, clear_short, clear_other, clear_next, order_least}
+use Rattle.check_wellformed.proofs.Matching.{clear_start, clear_done, clear_past, clear_short, clear_other, clear_next, order_least}
 use Rattle.check_wellformed.proofs.clauses.clauses_end.Goals as goal
 
 pub overflow_mul-first : goal.overflow_mul-first

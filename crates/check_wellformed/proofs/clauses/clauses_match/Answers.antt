@@ -1,10 +1,8 @@
 use native.Mathlib.Omega.{arith}
-use borrow.Author.Rules.{rules}
 use Prim.Native.Nat.{◌-◌}
-use lib.ListN.{length}
 use Rattle.format_fields.proofs.Places.{every_here}
 use Rattle.format_language.proofs.Facts.{entry_kind}
-use Rattle.check_wellformed.proofs.Matching.{Walk, walk_start, walk_done, asks, walk_missing, walk_next, walk_long}
+use Rattle.check_wellformed.proofs.Matching.{walk_start, walk_done, asks, walk_missing, walk_next, walk_long}
 use Rattle.check_wellformed.proofs.clauses.clauses_match.Goals as goal
 
 pub loop-from-init : goal.loop-from-init

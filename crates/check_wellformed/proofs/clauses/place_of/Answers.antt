@@ -1,4 +1,3 @@
-use borrow.Author.Rules.{rules}
 use Rattle.check_wellformed.proofs.Along.{place_end, place_long, place_here, place_other}
 use Rattle.check_wellformed.proofs.clauses.place_of.Goals as goal
 

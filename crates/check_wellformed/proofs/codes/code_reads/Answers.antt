@@ -1,5 +1,4 @@
 use Rattle.check_wellformed.proofs.Coded.{code_read}
-use borrow.Author.Rules.{rules}
 use Rattle.check_wellformed.proofs.codes.code_reads.Goals as goal
 
 pub returns : goal.returns

@@ -6,8 +6,7 @@ use mathlib.Core.Path.{refl, ◌∙◌}
 use Rattle.check_wellformed.proofs.Source.{source_indexed}
 use Rattle.check_wellformed.proofs.Matching.{rising_entries}
 use Rattle.check_wellformed.proofs.Along.{skipped_by}
-use Rattle.check_wellformed.proofs.Coded.{clause_key, clause_long, front_count, kind_below, code_fits_lem}
-use borrow.Author.Rules.{rules}
+use Rattle.check_wellformed.proofs.Coded.{clause_key, front_count, kind_below, code_fits_lem}
 use Rattle.check_wellformed.proofs.codes.code_typed.Goals as goal
 
 pub put_arguments-end-requires : goal.put_arguments-end-requires

@@ -1,21 +1,15 @@
-use native.Mathlib.Omega.{arith}
-use borrow.Author.Rules.{rules}
-use borrow.Author.Tests.{not-true, not-false}
 use Prim.Native.Nat.{◌-◌}
-use mathlib.Core.Path.{◌≡◌, refl}
+use mathlib.Core.Path.{◌≡◌}
 use mathlib.Core.Bool.{true}
 use lib.ListN.{length}
 use Rattle.format_fields.specs.Lists.{all}
 use Rattle.format_fields.specs.Inner.Places.{places_from}
-use Rattle.format_fields.proofs.Places.{every_here, every_after, every_done, every_stop, every_next}
 use Rattle.format_translation.specs.Translation.{Translation}
 use Rattle.format_translation.specs.WellFormed.{code_fits}
 use Rattle.format_translation.specs.Inner.Items.{item_at}
 use Rattle.check_wellformed.specs.Inner.Ready.{Ready}
 use Rattle.check_wellformed.specs.Inner.Tests.{is_clause_at}
-use Rattle.check_wellformed.proofs.Coded.{clause_at_lem, clause_long}
-use Rattle.check_wellformed.proofs.Matching.{source_long, body_order}
-use Rattle.check_wellformed.proofs.Along.{Along, along_clauses, along_long, clause_beside, clause_next}
+use Rattle.check_wellformed.proofs.Along.{Along}
 use Rattle.check_wellformed.proofs.codes.codes_typed.Given as goal
 
 abbrev pub invariant-loop-to : goal.invariant-loop-to

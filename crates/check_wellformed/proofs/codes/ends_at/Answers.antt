@@ -1,5 +1,4 @@
 use Rattle.check_wellformed.proofs.Coded.{end_ends, deep_ends, broken_ends}
-use borrow.Author.Rules.{rules}
 use Rattle.check_wellformed.proofs.codes.ends_at.Goals as goal
 
 pub returns-in-End : goal.returns-in-End

@@ -1,6 +1,5 @@
 use native.Mathlib.Omega.{arith}
 use Rattle.check_wellformed.proofs.Coded.{place_head, put_none, put_empty, put_inside, never_full, put_behind}
-use borrow.Author.Rules.{rules}
 use Rattle.check_wellformed.proofs.codes.put_arguments.Goals as goal
 
 pub place_of-place-requires : goal.place_of-place-requires

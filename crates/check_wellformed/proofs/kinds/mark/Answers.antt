@@ -2,7 +2,6 @@ use mathlib.Core.Path.{ap}
 use mathlib.Core.Bool.{true}
 use lib.ListN.{set}
 use Prim.Native.Nat.{ℕ}
-use borrow.Author.Rules.{rules}
 use Rattle.check_wellformed.proofs.kinds.mark.Goals as goal
 
 pub returns : goal.returns

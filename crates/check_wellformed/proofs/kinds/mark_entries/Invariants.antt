@@ -1,17 +1,11 @@
-use borrow.Author.Rules.{rules}
-use native.Mathlib.Omega.{arith}
 use Prim.Native.Nat.{◌-◌}
-use mathlib.Core.Path.{◌≡◌, refl, ◌∙◌}
+use mathlib.Core.Path.{◌≡◌}
 use mathlib.Core.Bool.{true}
 use lib.ListN.{length}
 use Rattle.format_fields.specs.Lists.{all}
 use Rattle.format_fields.specs.Inner.Places.{places_from, places}
-use Rattle.format_fields.proofs.Places.{every_here}
 use Rattle.format_language.specs.Inner.Entries.{entry_whole}
 use Rattle.check_wellformed.specs.Inner.Tests.{mark_entries}
-use Rattle.check_wellformed.proofs.Marked.{entries_marked, entries_mark}
-use Rattle.format_language.proofs.Facts.{entry_kind}
-use Rattle.format_translation.proofs.Whole.{entries_on}
 use Rattle.check_wellformed.proofs.kinds.mark_entries.Given as goal
 
 abbrev pub invariant-loop-p : goal.invariant-loop-p

@@ -1,11 +1,7 @@
 use borrow.Author.Rules.{rules}
 use native.Mathlib.Omega.{arith}
 use Prim.Native.Nat.{◌-◌}
-use mathlib.Core.Path.{◌≡◌, refl}
-use lib.ListN.{length}
-use lib.Seq.{slice}
-use Rattle.tree_reader.specs.Inner.Positions.{KindsIn}
-use Rattle.check_wellformed.specs.Inner.Tests.{mark_all}
+use mathlib.Core.Path.{refl}
 use Rattle.format_translation.proofs.Whole.{kinds_here, kinds_on}
 use Rattle.check_wellformed.proofs.Marked.{part_marked, part_mark}
 use Rattle.check_wellformed.proofs.kinds.mark_part.Goals as goal

@@ -4,7 +4,6 @@ use Prim.Native.Nat.{ℕ, ◌-◌}
 use lib.ListN.{get_or}
 use Rattle.check_wellformed.proofs.Along.{skipped_by}
 use Rattle.check_wellformed.proofs.Mappings.{kept_is, place_in}
-use borrow.Author.Rules.{rules}
 use Rattle.check_wellformed.proofs.mapping.class_kept.Goals as goal
 
 pub place_of-place-requires : goal.place_of-place-requires

@@ -1,8 +1,5 @@
-use borrow.Author.Rules.{rules}
-use borrow.Author.Tests.{not-true, not-false}
 use Prim.Native.Nat.{◌-◌}
-use mathlib.Core.Path.{◌≡◌, refl}
-use Rattle.format_fields.specs.Lists.{all, count_up}
+use mathlib.Core.Path.{refl}
 use Rattle.check_wellformed.specs.Inner.Tests.{mapped_if}
 use Rattle.check_wellformed.proofs.Mappings.{count_done, count_stop, count_next}
 use Rattle.check_wellformed.proofs.mapping.kinds_mapped.Goals as goal

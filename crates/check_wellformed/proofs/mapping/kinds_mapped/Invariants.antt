@@ -1,10 +1,7 @@
-use borrow.Author.Rules.{rules}
-use borrow.Author.Tests.{not-true, not-false}
 use Prim.Native.Nat.{◌-◌}
-use mathlib.Core.Path.{◌≡◌, refl}
+use mathlib.Core.Path.{◌≡◌}
 use Rattle.format_fields.specs.Lists.{all, count_up}
 use Rattle.check_wellformed.specs.Inner.Tests.{mapped_if}
-use Rattle.check_wellformed.proofs.Mappings.{count_done, count_stop, count_next}
 use Rattle.check_wellformed.proofs.mapping.kinds_mapped.Given as goal
 
 abbrev pub invariant-loop-k : goal.invariant-loop-k

@@ -1,5 +1,4 @@
 use Rattle.check_wellformed.proofs.Mappings.{if_none, if_some}
-use borrow.Author.Rules.{rules}
 use Rattle.check_wellformed.proofs.mapping.mapped_if.Goals as goal
 
 pub returns-then-uses-k-eq0 : goal.returns-then-uses-k-eq0

@@ -1,10 +1,8 @@
 use native.Mathlib.Omega.{arith}
-use borrow.Author.Tests.{not-true, not-false}
 use mathlib.Core.Path.{refl}
 use Rattle.tree_reader.proofs.Members.{entries_whole}
 use Rattle.check_wellformed.proofs.Marked.{table_is}
 use Rattle.check_wellformed.proofs.Mappings.{fits_kinds, fits_items}
-use borrow.Author.Rules.{rules}
 use Rattle.check_wellformed.proofs.mapping.mapping_fits.Goals as goal
 
 pub mark_entries-requires : goal.mark_entries-requires

@@ -1,23 +1,14 @@
-use borrow.Author.Rules.{rules}
-use native.Mathlib.Omega.{arith}
-use borrow.Author.Tests.{not-true, not-false}
 use Prim.Native.Nat.{◌-◌}
-use mathlib.Core.Path.{◌≡◌, refl, sym, ◌∙◌}
+use mathlib.Core.Path.{◌≡◌}
 use mathlib.Core.Bool.{true}
 use lib.ListN.{length}
 use Rattle.format_fields.specs.Lists.{all}
 use Rattle.format_fields.specs.Inner.Places.{places_from, places}
-use Rattle.format_fields.proofs.Places.{every_done, every_stop, every_next}
 use Rattle.format_translation.specs.Inner.Items.{item_whole}
-use Rattle.format_translation.proofs.Items.{holds_items}
-use Rattle.format_translation.proofs.Whole.{item_long, item_here, items_on}
-use Rattle.format_translation.proofs.Uses.{Front, front_start, front_next}
+use Rattle.format_translation.proofs.Uses.{Front}
 use Rattle.check_wellformed.specs.Inner.Ready.{index_of}
 use Rattle.check_wellformed.specs.Inner.Tests.{fits_at}
-use Rattle.check_wellformed.proofs.Source.{source_indexed}
-use Rattle.check_wellformed.proofs.Mappings.{mapping_at, fits_not, fits_kept, front_fits}
-use Rattle.check_wellformed.proofs.Matching.{rising_entries, source_long, body_order}
-use Rattle.check_wellformed.proofs.Along.{Along, along_first, along_long, mapping_beside, mapping_next}
+use Rattle.check_wellformed.proofs.Along.{Along}
 use Rattle.check_wellformed.proofs.mapping.mappings_fit.Given as goal
 
 abbrev pub invariant-loop-p : goal.invariant-loop-p

@@ -1,6 +1,5 @@
 use native.Mathlib.Omega.{arith}
 use Rattle.check_wellformed.proofs.Mappings.{range_free, range_none, range_there}
-use borrow.Author.Rules.{rules}
 use Rattle.check_wellformed.proofs.mapping.range_kept.Goals as goal
 
 pub returns-then-place-eq0 : goal.returns-then-place-eq0

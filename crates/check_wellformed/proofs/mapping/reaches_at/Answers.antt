@@ -1,6 +1,4 @@
-use borrow.Author.Tests.{not-true, not-false}
 use Rattle.check_wellformed.proofs.Mappings.{reaches_not, reaches_both, target_below}
-use borrow.Author.Rules.{rules}
 use Rattle.check_wellformed.proofs.mapping.reaches_at.Goals as goal
 
 pub returns-then-not-marked-to_usize : goal.returns-then-not-marked-to_usize

@@ -1,5 +1,4 @@
 use Rattle.format_card.proofs.Refusals.{lowest_one, lowest_second, lowest_first}
-use borrow.Author.Rules.{rules}
 use Rattle.format_card.proofs.lowest.lowest.Goals as goal
 
 pub returns-in_default-first : goal.returns-in_default-first

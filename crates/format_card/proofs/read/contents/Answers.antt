@@ -1,11 +1,7 @@
 use Prim.Native.Nat.{◌-◌}
 use mathlib.Core.Path.{refl}
-use mathlib.Core.Logic.{⊎_elim}
 use native.Mathlib.Omega.{arith}
-use lib.ListN.{length}
-use borrow.Author.Rules.{rules}
-use borrow.Author.Tests.{not-true, not-false}
-use Rattle.format_card.proofs.Cards.{Going, going_start, going_broken, going_unordered, going_next, going_fits, going_fails, going_done}
+use Rattle.format_card.proofs.Cards.{going_start, going_broken, going_unordered, going_next, going_fits, going_fails, going_done}
 use Rattle.format_card.proofs.read.contents.Goals as goal
 use Rattle.format_card.proofs.read.contents.Goals.{then-kind-least, else-kind-least}
 

@@ -1,5 +1,4 @@
 use Rattle.format_card.proofs.Cards.{card_short, card_tag, card_size}
-use borrow.Author.Rules.{rules}
 use Rattle.format_card.proofs.read.is_card.Goals as goal
 
 pub returns-then-card-lt3 : goal.returns-then-card-lt3

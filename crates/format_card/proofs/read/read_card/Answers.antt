@@ -1,7 +1,5 @@
 use mathlib.Core.Path.{sym, ◌∙◌}
-use borrow.Author.Tests.{not-true, not-false}
 use Rattle.format_card.proofs.Cards.{reads_broken, card_long, reads_no_kind, reads_unordered, reads_set}
-use borrow.Author.Rules.{rules}
 use Rattle.format_card.proofs.read.read_card.Goals as goal
 
 pub returns-then-not-is_card : goal.returns-then-not-is_card

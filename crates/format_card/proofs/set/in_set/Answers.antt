@@ -1,6 +1,5 @@
 use mathlib.Core.Path.{refl}
 use Rattle.format_card.specs.Inner.Sets.{in_set}
-use borrow.Author.Rules.{rules}
 use Rattle.format_card.proofs.set.in_set.Goals as goal
 
 pub returns : goal.returns

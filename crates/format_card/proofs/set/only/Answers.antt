@@ -1,5 +1,4 @@
 use Rattle.format_card.proofs.Sets.{one_shifted}
-use borrow.Author.Rules.{rules}
 use Rattle.format_card.proofs.set.only.Goals as goal
 
 pub returns : goal.returns

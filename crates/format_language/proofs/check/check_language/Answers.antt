@@ -2,9 +2,7 @@ use Rattle.format_fields.specs.Inner.Places.{order_at}
 use mathlib.Core.Path.{sym, ◌∙◌}
 use Rattle.format_language.proofs.Facts.{entries_long}
 use Rattle.format_language.proofs.Holds.{entries_there}
-use borrow.Author.Tests.{not-true, not-false}
 use Rattle.format_language.proofs.Chain.{too_long, broken, out_of_order, clash, accepted}
-use borrow.Author.Rules.{rules}
 use Rattle.format_language.proofs.check.check_language.Goals as goal
 
 pub returns-then-language-gt-LANGUAGE_LIMIT : goal.returns-then-language-gt-LANGUAGE_LIMIT

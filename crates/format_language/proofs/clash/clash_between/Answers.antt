@@ -1,7 +1,5 @@
 use mathlib.Core.Path.{sym, ◌∙◌}
-use mathlib.Core.Logic.{⊎_elim}
 use Rattle.format_language.proofs.Classes.{no_classes, meet_marked, clash_left, clash_right}
-use borrow.Author.Rules.{rules}
 use Rattle.format_language.proofs.clash.clash_between.Goals as goal
 use Rattle.format_language.proofs.clash.clash_between.Goals.{then-p-ne0+else-results_marked, else-p-ne0}
 

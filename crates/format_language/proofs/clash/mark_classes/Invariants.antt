@@ -1,16 +1,12 @@
-use borrow.Author.Rules.{rules}
-use native.Mathlib.Omega.{arith}
 use Prim.Native.Nat.{◌-◌}
-use mathlib.Core.Path.{◌≡◌, refl}
+use mathlib.Core.Path.{◌≡◌}
 use mathlib.Core.Bool.{Bool, true}
 use mathlib.Core.List.{List}
 use lib.ListN.{length}
 use Rattle.format_fields.specs.Lists.{all, any}
 use Rattle.format_fields.specs.Inner.Places.{places_from, places}
-use Rattle.format_fields.proofs.Places.{every_here, every_after}
 use Rattle.format_language.specs.Inner.Entries.{entry_whole, mark_classes, result_marked}
-use Rattle.format_language.proofs.Facts.{entry_kind}
-use Rattle.format_language.proofs.Classes.{RisesFrom, rises_start, rises_next, classed_done, classed_here, classes_next, results_next}
+use Rattle.format_language.proofs.Classes.{RisesFrom}
 use Rattle.format_language.proofs.clash.mark_classes.Given as goal
 
 abbrev pub invariant-loop-p : goal.invariant-loop-p

@@ -1,5 +1,4 @@
 use Rattle.format_language.proofs.Classes.{classed_is}
-use borrow.Author.Rules.{rules}
 use Rattle.format_language.proofs.clash.result_is_class.Goals as goal
 
 pub returns : goal.returns

@@ -1,15 +1,10 @@
-use borrow.Author.Rules.{rules}
-use native.Mathlib.Omega.{arith}
 use Prim.Native.Nat.{◌-◌}
-use mathlib.Core.Path.{◌≡◌, refl}
+use mathlib.Core.Path.{◌≡◌}
 use mathlib.Core.Bool.{true}
 use lib.ListN.{length}
 use Rattle.format_fields.specs.Lists.{all, any}
 use Rattle.format_fields.specs.Inner.Places.{places_from, tag_is}
-use Rattle.format_fields.proofs.Places.{every_here, every_after, some_done, some_stop, some_next}
 use Rattle.format_language.specs.Inner.Entries.{entry_whole, result_marked}
-use Rattle.format_language.proofs.Facts.{entry_kind}
-use Rattle.format_language.proofs.Classes.{result_is_lem}
 use Rattle.format_language.proofs.clash.results_marked.Given as goal
 
 abbrev pub invariant-loop-p : goal.invariant-loop-p

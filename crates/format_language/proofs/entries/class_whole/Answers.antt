@@ -1,8 +1,6 @@
 use mathlib.Core.Path.{refl, sym, ◌∙◌}
 use native.Mathlib.Omega.{arith}
-use borrow.Author.Tests.{not-true, not-false}
 use Rattle.format_language.proofs.Returns.{class_step, class_kind, class_range_lem}
-use borrow.Author.Rules.{rules}
 use Rattle.format_language.proofs.entries.class_whole.Goals as goal
 
 pub returns-then-not-step_whole : goal.returns-then-not-step_whole

@@ -1,17 +1,10 @@
-use native.Mathlib.Omega.{arith}
-use borrow.Author.Tests.{not-true, not-false}
 use Prim.Native.Nat.{◌-◌}
-use mathlib.Core.Path.{◌≡◌, refl}
-use mathlib.Core.Bool.{false}
+use mathlib.Core.Path.{◌≡◌}
 use lib.ListN.{length}
 use Rattle.format_fields.specs.Lists.{all, is_some}
 use Rattle.format_fields.specs.Inner.Places.{places_from}
 use Rattle.format_language.specs.LanguageFile.{entries_of}
 use Rattle.format_language.specs.Inner.Entries.{entry_whole}
-use Rattle.format_language.proofs.Holds.{entries_there}
-use Rattle.format_language.proofs.Returns.{entry_cut, entry_is}
-use Rattle.format_fields.proofs.Places.{every_done, every_stop, every_next}
-use borrow.Author.Rules.{rules}
 use Rattle.format_language.proofs.entries.entries_whole.Given as goal
 
 abbrev pub invariant-loop-p : goal.invariant-loop-p

@@ -2,7 +2,6 @@ use native.Mathlib.Omega.{arith}
 use mathlib.Core.Path.{refl}
 use Rattle.format_fields.proofs.Places.{size_of}
 use Rattle.format_language.proofs.Returns.{good_class, good_production, good_neither}
-use borrow.Author.Rules.{rules}
 use Rattle.format_language.proofs.entries.entry_good.Goals as goal
 
 pub class_whole-requires : goal.class_whole-requires

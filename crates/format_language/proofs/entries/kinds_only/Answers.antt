@@ -1,9 +1,5 @@
-use borrow.Author.Rules.{rules}
 use Prim.Native.Nat.{◌-◌}
-use mathlib.Core.Path.{◌≡◌, refl}
-use lib.Seq.{slice}
-use Rattle.format_fields.specs.Lists.{all}
-use Rattle.format_language.specs.LanguageFile.{is_kind}
+use mathlib.Core.Path.{refl}
 use Rattle.format_language.proofs.Returns.{kinds_done, kinds_stop, kinds_next}
 use Rattle.format_language.proofs.entries.kinds_only.Goals as goal
 

@@ -1,6 +1,5 @@
 use mathlib.Core.Path.{refl}
 use Rattle.format_language.proofs.Returns.{production_short, production_long, production_kind, production_kinds}
-use borrow.Author.Rules.{rules}
 use Rattle.format_language.proofs.entries.production_whole.Goals as goal
 
 pub returns-then-n-lt2 : goal.returns-then-n-lt2

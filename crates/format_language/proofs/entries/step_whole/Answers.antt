@@ -1,5 +1,4 @@
 use Rattle.format_language.proofs.Returns.{step_five, step_none, step_seven}
-use borrow.Author.Rules.{rules}
 use Rattle.format_language.proofs.entries.step_whole.Goals as goal
 
 pub returns-then-n-eq-CLASS_LENGTH : goal.returns-then-n-eq-CLASS_LENGTH

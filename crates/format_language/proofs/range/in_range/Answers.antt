@@ -1,6 +1,5 @@
 use native.Mathlib.Omega.{arith}
 use Rattle.format_language.proofs.Ranges.{class_long, value_below, value_above, value_single, value_steps}
-use borrow.Author.Rules.{rules}
 use Rattle.format_language.proofs.range.in_range.Goals as goal
 
 pub overflow_add-p : goal.overflow_add-p

@@ -1,8 +1,6 @@
 use mathlib.Core.Path.{sym, ◌∙◌}
-use borrow.Author.Tests.{not-true, not-false}
 use native.Mathlib.Omega.{arith}
 use Rattle.format_language.proofs.Ranges.{class_long, low_out, span_single, step_out, rest_small, last_in}
-use borrow.Author.Rules.{rules}
 use Rattle.format_language.proofs.range.range_within.Goals as goal
 
 pub overflow_add-p : goal.overflow_add-p

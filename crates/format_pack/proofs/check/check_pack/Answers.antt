@@ -1,7 +1,5 @@
 use mathlib.Core.Path.{sym, ◌∙◌}
-use borrow.Author.Tests.{not-true, not-false}
 use Rattle.format_pack.proofs.Passes.{over_refused, broken_refused, each_whole, order_refused, clash_refused, pack_accepted}
-use borrow.Author.Rules.{rules}
 use Rattle.format_pack.proofs.check.check_pack.Goals as goal
 
 pub returns-then-over_limit : goal.returns-then-over_limit

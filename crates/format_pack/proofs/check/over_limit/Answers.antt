@@ -1,5 +1,4 @@
 use Rattle.format_pack.proofs.Passes.{over_file, over_language}
-use borrow.Author.Rules.{rules}
 use Rattle.format_pack.proofs.check.over_limit.Goals as goal
 
 pub returns-then-pack-gt-PACK_LIMIT : goal.returns-then-pack-gt-PACK_LIMIT

@@ -2,7 +2,6 @@ use Rattle.format_fields.specs.Inner.Places.{order_at}
 use mathlib.Core.Path.{refl}
 use mathlib.Core.Bool.{false}
 use Rattle.format_pack.proofs.Passes.{entries_in, entries_rise, clash_other, clash_language}
-use borrow.Author.Rules.{rules}
 use Rattle.format_pack.proofs.order.clash_at.Goals as goal
 
 pub returns-then-s-p-ne-LANGUAGE : goal.returns-then-s-p-ne-LANGUAGE

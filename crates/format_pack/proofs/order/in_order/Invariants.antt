@@ -1,14 +1,10 @@
-use borrow.Author.Tests.{not-true, not-false}
 use Prim.Native.Nat.{◌-◌}
-use mathlib.Core.Path.{◌≡◌, refl}
+use mathlib.Core.Path.{◌≡◌}
 use mathlib.Core.Bool.{true}
 use lib.ListN.{length}
 use Rattle.format_fields.specs.Lists.{all}
 use Rattle.format_fields.specs.Inner.Places.{places_from, places}
-use Rattle.format_fields.proofs.Places.{whole_end, head_there, every_here, every_after, every_stop, every_next, every_done}
 use Rattle.format_pack.specs.Inner.Parts.{part_whole, rises_at}
-use Rattle.format_pack.proofs.Passes.{part_whole_lem}
-use borrow.Author.Rules.{rules}
 use Rattle.format_pack.proofs.order.in_order.Given as goal
 
 abbrev pub invariant-loop-p : goal.invariant-loop-p

@@ -1,7 +1,6 @@
 use mathlib.Core.Path.{refl}
 use mathlib.Core.Bool.{false}
 use Rattle.format_pack.proofs.Passes.{entries_long_in, items_long_in, rises_language, rises_body, rises_term}
-use borrow.Author.Rules.{rules}
 use Rattle.format_pack.proofs.order.rises_at.Goals as goal
 
 pub keys_rise-requires : goal.keys_rise-requires

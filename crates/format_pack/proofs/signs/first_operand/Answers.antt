@@ -1,6 +1,5 @@
 use native.Mathlib.Omega.{arith}
 use Rattle.format_pack.proofs.Readings.{first_none, first_told, first_sort_lem}
-use borrow.Author.Rules.{rules}
 use Rattle.format_pack.proofs.signs.first_operand.Goals as goal
 
 pub returns-then-i-ge-SIGNS : goal.returns-then-i-ge-SIGNS

@@ -1,5 +1,4 @@
 use Rattle.format_pack.proofs.Readings.{number_none, number_is}
-use borrow.Author.Rules.{rules}
 use Rattle.format_pack.proofs.signs.has_number.Goals as goal
 
 pub returns-then-i-ge-SIGNS : goal.returns-then-i-ge-SIGNS

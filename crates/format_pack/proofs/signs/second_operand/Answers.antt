@@ -1,6 +1,5 @@
 use native.Mathlib.Omega.{arith}
 use Rattle.format_pack.proofs.Readings.{second_none, second_told, second_sort_lem}
-use borrow.Author.Rules.{rules}
 use Rattle.format_pack.proofs.signs.second_operand.Goals as goal
 
 pub returns-then-i-ge-SIGNS : goal.returns-then-i-ge-SIGNS

@@ -1,5 +1,4 @@
 use Rattle.format_pack.proofs.Readings.{index_below, index_left, index_between, index_right, index_above}
-use borrow.Author.Rules.{rules}
 use Rattle.format_pack.proofs.signs.sign_index.Goals as goal
 
 pub returns-then-sign-lt-CONSTANT : goal.returns-then-sign-lt-CONSTANT

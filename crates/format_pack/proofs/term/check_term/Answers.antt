@@ -1,6 +1,5 @@
 use Rattle.format_pack.proofs.Standing.{accepted_whole}
 use Rattle.format_pack.proofs.Readings.{term_refused, term_left, term_accepted, end_in}
-use borrow.Author.Rules.{rules}
 use Rattle.format_pack.proofs.term.check_term.Goals as goal
 
 pub count_tag-languages-requires : goal.count_tag-languages-requires

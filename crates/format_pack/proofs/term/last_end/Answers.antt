@@ -1,6 +1,5 @@
 use mathlib.Core.Path.{◌∙◌}
 use Rattle.format_pack.proofs.Readings.{last_number, last_none}
-use borrow.Author.Rules.{rules}
 use Rattle.format_pack.proofs.term.last_end.Goals as goal
 
 pub returns-then-sign-eq-MAKE : goal.returns-then-sign-eq-MAKE

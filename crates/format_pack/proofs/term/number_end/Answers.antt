@@ -1,6 +1,5 @@
 use native.Mathlib.Omega.{arith}
 use Rattle.format_pack.proofs.Readings.{number_past, number_over, number_in_lem}
-use borrow.Author.Rules.{rules}
 use Rattle.format_pack.proofs.term.number_end.Goals as goal
 
 pub returns-then-s-at : goal.returns-then-s-at

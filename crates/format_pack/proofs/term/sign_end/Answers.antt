@@ -1,8 +1,6 @@
 use mathlib.Core.Path.{refl, ◌∙◌}
 use native.Mathlib.Omega.{arith}
-use borrow.Author.Tests.{not-true, not-false}
 use Rattle.format_pack.proofs.Readings.{sign_past, sign_low, sign_high, sign_plain, sign_make, sign_constant, sign_variable}
-use borrow.Author.Rules.{rules}
 use Rattle.format_pack.proofs.term.sign_end.Goals as goal
 
 pub returns-then-s-at : goal.returns-then-s-at

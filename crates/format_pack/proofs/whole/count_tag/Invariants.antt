@@ -1,14 +1,10 @@
-use native.Mathlib.Omega.{arith}
 use Prim.Native.Nat.{◌+◌, ◌-◌, ◌≤◌}
-use mathlib.Core.Path.{◌≡◌, refl}
+use mathlib.Core.Path.{◌≡◌}
 use mathlib.Core.Bool.{true}
 use lib.ListN.{length}
 use Rattle.format_fields.specs.Lists.{all, keep}
 use Rattle.format_fields.specs.Inner.Places.{is_whole, places_from, tag_is}
 use Rattle.format_pack.specs.Inner.Parts.{tagged}
-use Rattle.format_pack.proofs.Passes.{count_start, count_done, count_here, count_other}
-use Rattle.format_fields.proofs.Places.{head_there, every_here, every_after}
-use borrow.Author.Rules.{rules}
 use Rattle.format_pack.proofs.whole.count_tag.Given as goal
 
 abbrev pub invariant-loop-p : goal.invariant-loop-p

@@ -1,7 +1,6 @@
 use mathlib.Core.Path.{refl}
 use mathlib.Core.Bool.{false}
 use Rattle.format_pack.proofs.Passes.{good_language, good_body, good_term}
-use borrow.Author.Rules.{rules}
 use Rattle.format_pack.proofs.whole.part_good.Goals as goal
 
 pub returns-then-tag-eq-LANGUAGE : goal.returns-then-tag-eq-LANGUAGE

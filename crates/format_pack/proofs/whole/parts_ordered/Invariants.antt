@@ -1,14 +1,8 @@
-use native.Mathlib.Omega.{arith}
-use borrow.Author.Tests.{not-true, not-false}
 use Prim.Native.Nat.{◌-◌}
-use mathlib.Core.Path.{◌≡◌, refl}
-use mathlib.Core.Bool.{false}
+use mathlib.Core.Path.{◌≡◌}
 use lib.ListN.{length}
 use Rattle.format_fields.specs.Inner.Places.{places_from, places}
 use Rattle.format_pack.specs.Inner.Parts.{parts_ordered}
-use Rattle.format_pack.proofs.Passes.{part_cut, part_is}
-use Rattle.format_fields.proofs.Places.{ordered_done, ordered_stop, ordered_falls, ordered_next}
-use borrow.Author.Rules.{rules}
 use Rattle.format_pack.proofs.whole.parts_ordered.Given as goal
 
 abbrev pub invariant-loop-p : goal.invariant-loop-p

@@ -1,7 +1,5 @@
 use mathlib.Core.Path.{sym, ◌∙◌}
-use borrow.Author.Tests.{not-true, not-false}
 use Rattle.format_pack.proofs.Passes.{ordered_whole, whole_unordered, whole_languages, whole_bodies, whole_term_lem}
-use borrow.Author.Rules.{rules}
 use Rattle.format_pack.proofs.whole.parts_whole.Goals as goal
 
 pub returns-then-not-parts_ordered : goal.returns-then-not-parts_ordered

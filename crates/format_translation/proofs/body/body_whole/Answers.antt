@@ -1,15 +1,8 @@
 use native.Mathlib.Omega.{arith}
-use borrow.Author.Tests.{not-true, not-false}
 use Prim.Native.Nat.{◌-◌}
-use mathlib.Core.Path.{◌≡◌, refl}
+use mathlib.Core.Path.{refl}
 use mathlib.Core.Bool.{false}
-use lib.ListN.{length}
-use Rattle.format_fields.specs.Lists.{is_some}
-use Rattle.format_fields.specs.Inner.Places.{places_from}
-use Rattle.format_translation.specs.TranslationFile.{body_of}
-use Rattle.format_translation.specs.Inner.Items.{items_whole}
 use Rattle.format_translation.proofs.Items.{body_there, item_cut, item_is, items_done, items_broken, items_late, items_clause, items_early}
-use borrow.Author.Rules.{rules}
 use Rattle.format_translation.proofs.body.body_whole.Goals as goal
 
 pub loop-p-init : goal.loop-p-init

@@ -1,15 +1,10 @@
-use native.Mathlib.Omega.{arith}
-use borrow.Author.Tests.{not-true, not-false}
 use Prim.Native.Nat.{◌-◌}
-use mathlib.Core.Path.{◌≡◌, refl}
-use mathlib.Core.Bool.{false}
+use mathlib.Core.Path.{◌≡◌}
 use lib.ListN.{length}
 use Rattle.format_fields.specs.Lists.{is_some}
 use Rattle.format_fields.specs.Inner.Places.{places_from}
 use Rattle.format_translation.specs.TranslationFile.{body_of}
 use Rattle.format_translation.specs.Inner.Items.{items_whole}
-use Rattle.format_translation.proofs.Items.{body_there, item_cut, item_is, items_done, items_broken, items_late, items_clause, items_early}
-use borrow.Author.Rules.{rules}
 use Rattle.format_translation.proofs.body.body_whole.Given as goal
 
 abbrev pub invariant-loop-p : goal.invariant-loop-p

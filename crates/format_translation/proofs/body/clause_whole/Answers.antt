@@ -1,6 +1,5 @@
 use mathlib.Core.Path.{refl}
 use Rattle.format_translation.proofs.Items.{clause_short, clause_result}
-use borrow.Author.Rules.{rules}
 use Rattle.format_translation.proofs.body.clause_whole.Goals as goal
 
 pub returns-then-n-lt2 : goal.returns-then-n-lt2

@@ -1,6 +1,5 @@
 use mathlib.Core.Path.{refl}
 use Rattle.format_translation.proofs.Items.{mapping_size, mapping_source, mapping_target}
-use borrow.Author.Rules.{rules}
 use Rattle.format_translation.proofs.body.mapping_whole.Goals as goal
 
 pub returns-then-n-ne2 : goal.returns-then-n-ne2

@@ -1,7 +1,6 @@
 use mathlib.Core.Path.{refl}
 use native.Mathlib.Omega.{arith}
 use Rattle.format_translation.proofs.Items.{numbered_short, numbered_out, numbered_result}
-use borrow.Author.Rules.{rules}
 use Rattle.format_translation.proofs.body.numbered_clause_whole.Goals as goal
 
 pub returns-then-n-lt3 : goal.returns-then-n-lt3

@@ -1,7 +1,6 @@
 use mathlib.Core.Path.{refl}
 use native.Mathlib.Omega.{arith}
 use Rattle.format_translation.proofs.Items.{numbered_size, numbered_source, numbered_zero, numbered_target}
-use borrow.Author.Rules.{rules}
 use Rattle.format_translation.proofs.body.numbered_mapping_whole.Goals as goal
 
 pub returns-then-n-ne3 : goal.returns-then-n-ne3

@@ -1,5 +1,4 @@
 use Rattle.format_translation.proofs.Clauses.{with_number, no_number}
-use borrow.Author.Rules.{rules}
 use Rattle.format_translation.proofs.clause.clause_number.Goals as goal
 
 pub returns-then-body-p-eq-NUMBERED_CLAUSE : goal.returns-then-body-p-eq-NUMBERED_CLAUSE

@@ -1,6 +1,5 @@
 use native.Mathlib.Omega.{arith}
 use Rattle.format_translation.proofs.Clauses.{start_with, start_without}
-use borrow.Author.Rules.{rules}
 use Rattle.format_translation.proofs.clause.code_start.Goals as goal
 
 pub returns-then-body-p-eq-NUMBERED_CLAUSE : goal.returns-then-body-p-eq-NUMBERED_CLAUSE

@@ -1,6 +1,5 @@
 use native.Mathlib.Omega.{arith}
 use Rattle.format_translation.proofs.IndexedItems.{build_is}
-use borrow.Author.Rules.{rules}
 use Rattle.format_translation.proofs.index.build_items.Goals as goal
 
 pub returns : goal.returns

@@ -1,5 +1,4 @@
 use Rattle.format_translation.proofs.IndexedItems.{known_first, known_in, known_out}
-use borrow.Author.Rules.{rules}
 use Rattle.format_translation.proofs.index.known_at.Goals as goal
 
 pub returns-then-byte_at-leading_tag : goal.returns-then-byte_at-leading_tag

@@ -3,7 +3,6 @@ use mathlib.Core.Path.{◌∙◌, ap}
 use lib.ListN.{get_or}
 use Prim.Native.Nat.{ℕ}
 use Rattle.format_translation.proofs.IndexedItems.{kind_none, kind_there, kind_in}
-use borrow.Author.Rules.{rules}
 use Rattle.format_translation.proofs.index.map_kind.Goals as goal
 
 pub returns-then-place-eq0 : goal.returns-then-place-eq0

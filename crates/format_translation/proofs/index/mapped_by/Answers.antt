@@ -1,5 +1,4 @@
 use Rattle.format_translation.proofs.Clauses.{mapped_there, mapped_none}
-use borrow.Author.Rules.{rules}
 use Rattle.format_translation.proofs.index.mapped_by.Goals as goal
 
 pub returns-then-next-eq0 : goal.returns-then-next-eq0

@@ -1,5 +1,4 @@
 use Rattle.tree_reader.proofs.Lookup.{put_not, put_in}
-use borrow.Author.Rules.{rules}
 use Rattle.format_translation.proofs.index.put_use.Goals as goal
 
 pub returns-then-uses-key-ne0 : goal.returns-then-uses-key-ne0

@@ -1,15 +1,9 @@
 use native.Mathlib.Omega.{arith}
-use borrow.Author.Tests.{not-true, not-false}
 use Prim.Native.Nat.{◌-◌}
-use mathlib.Core.Path.{◌≡◌, refl, sym, ap, ◌∙◌}
+use mathlib.Core.Path.{refl, sym, ap, ◌∙◌}
 use Rattle.tree_reader.proofs.Lookup.{put_length}
-use mathlib.Core.Option.{some}
 use lib.ListN.{length}
-use Rattle.tree_reader.specs.Inner.Positions.{uses_length}
-use Rattle.format_translation.specs.Translation.{Body}
-use Rattle.format_translation.specs.TranslationFile.{body_of}
-use Rattle.format_translation.proofs.Uses.{Front, front_start, Filling, filling_start, filled_end, filled_clause, put_here, front_next, filling_next, put_asks, put_value}
-use borrow.Author.Rules.{rules}
+use Rattle.format_translation.proofs.Uses.{front_start, filling_start, filled_end, filled_clause, put_here, front_next, filling_next, put_asks, put_value}
 use Rattle.format_translation.proofs.index.put_uses.Goals as goal
 
 pub loop-p-init : goal.loop-p-init

@@ -1,5 +1,4 @@
 use Rattle.format_fields.specs.Inner.Places.{order_at}
-use borrow.Author.Tests.{not-true, not-false}
 use Rattle.format_language.proofs.Holds.{holds_entries}
 use Rattle.format_translation.proofs.Items.{holds_items}
 use Rattle.format_language.proofs.Facts.{entries_long}

@@ -1,6 +1,5 @@
 use mathlib.Core.Path.{◌∙◌}
 use Rattle.format_translation.proofs.Found.{over_file, over_language}
-use borrow.Author.Rules.{rules}
 use Rattle.format_translation.proofs.parts.over_limit.Goals as goal
 
 pub returns-then-s-gt-TRANSLATION_LIMIT : goal.returns-then-s-gt-TRANSLATION_LIMIT

@@ -1,7 +1,6 @@
 use native.Mathlib.Omega.{arith}
 use mathlib.Core.Path.{refl}
 use Rattle.format_translation.proofs.Found.{part_cut, part_other, part_whole_lem}
-use borrow.Author.Rules.{rules}
 use Rattle.format_translation.proofs.parts.part_end.Goals as goal
 
 pub returns-then-e-eq0 : goal.returns-then-e-eq0

@@ -1,6 +1,4 @@
-use borrow.Author.Rules.{rules}
 use native.Mathlib.Omega.{arith}
-use borrow.Author.Tests.{not-true, not-false}
 use Rattle.format_translation.proofs.Found.{whole_source, whole_target, whole_first, whole_second, whole_body, cuts}
 use Rattle.format_translation.proofs.parts.parts_whole.Goals as goal
 

@@ -1,6 +1,5 @@
 use mathlib.Core.Path.{refl}
 use Rattle.format_translation.proofs.Cuts.{heads_at, source_at, source_cut}
-use borrow.Author.Rules.{rules}
 use Rattle.format_translation.proofs.parts.source_of.Goals as goal
 
 pub whole_end-a-requires : goal.whole_end-a-requires

@@ -1,6 +1,5 @@
 use mathlib.Core.Path.{refl}
 use Rattle.format_translation.proofs.Cuts.{heads_at, parts_at, target_cut}
-use borrow.Author.Rules.{rules}
 use Rattle.format_translation.proofs.parts.target_of.Goals as goal
 
 pub whole_end-a-requires : goal.whole_end-a-requires

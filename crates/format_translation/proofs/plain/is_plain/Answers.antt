@@ -1,12 +1,6 @@
 use native.Mathlib.Omega.{arith}
 use Prim.Native.Nat.{◌-◌}
-use mathlib.Core.Path.{◌≡◌}
-use mathlib.Core.Option.{some}
-use lib.ListN.{length}
-use borrow.Author.Rules.{rules}
-use Rattle.format_translation.specs.Translation.{Body}
-use Rattle.format_translation.specs.TranslationFile.{body_of}
-use Rattle.format_translation.proofs.PlainWalk.{Whole, Left, whole_start, left_start, left_end, head_there, whole_next, left_number, left_next}
+use Rattle.format_translation.proofs.PlainWalk.{whole_start, left_start, left_end, head_there, whole_next, left_number, left_next}
 use Rattle.format_translation.proofs.plain.is_plain.Goals as goal
 
 pub loop-p-init : goal.loop-p-init

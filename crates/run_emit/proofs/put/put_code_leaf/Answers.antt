@@ -1,7 +1,6 @@
 use native.Mathlib.Omega.{arith}
 use mathlib.Core.Path.{refl}
 use Rattle.run_emit.proofs.Puts.{code_leaf_room, code_leaf_three, leaf_token, leaf_use}
-use borrow.Author.Rules.{rules}
 use Rattle.run_emit.proofs.put.put_code_leaf.Goals as goal
 
 pub bounds-input-at : goal.bounds-input-at

@@ -1,5 +1,4 @@
 use Rattle.run_emit.proofs.Puts.{name_tree_full, name_tree, name_code}
-use borrow.Author.Rules.{rules}
 use Rattle.run_emit.proofs.put.put_name.Goals as goal
 
 pub returns-then-output-pos : goal.returns-then-output-pos

@@ -1,7 +1,6 @@
 use native.Mathlib.Omega.{arith}
 use Prim.Native.Nat.{◌+◌}
 use Rattle.run_emit.proofs.Puts.{in_set_lem, in_two, three_full, three_put}
-use borrow.Author.Rules.{rules}
 use Rattle.run_emit.proofs.put.put_three.Goals as goal
 
 pub returns-then-output-pos : goal.returns-then-output-pos

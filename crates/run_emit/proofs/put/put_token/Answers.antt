@@ -1,5 +1,4 @@
 use Rattle.run_emit.proofs.Puts.{token_tree, token_code}
-use borrow.Author.Rules.{rules}
 use Rattle.run_emit.proofs.put.put_token.Goals as goal
 
 pub returns-in-Tree : goal.returns-in-Tree

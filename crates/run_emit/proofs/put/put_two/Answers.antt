@@ -1,7 +1,6 @@
 use native.Mathlib.Omega.{arith}
 use Prim.Native.Nat.{◌+◌}
 use Rattle.run_emit.proofs.Puts.{in_set_lem, two_full, two_put}
-use borrow.Author.Rules.{rules}
 use Rattle.run_emit.proofs.put.put_two.Goals as goal
 
 pub returns-then-output-pos : goal.returns-then-output-pos

@@ -1,5 +1,4 @@
 use Rattle.run_emit.proofs.Puts.{use_plain, use_numbered}
-use borrow.Author.Rules.{rules}
 use Rattle.run_emit.proofs.put.put_use.Goals as goal
 
 pub returns-then-number-eq0 : goal.returns-then-number-eq0

@@ -1,6 +1,5 @@
 use mathlib.Core.Path.{◌∙◌}
 use Rattle.run_emit.proofs.Rows.{used_root, used_zero, used_behind}
-use borrow.Author.Rules.{rules}
 use Rattle.run_emit.proofs.run.number_at.Goals as goal
 
 pub returns-then-used-ge-BODY_LENGTH : goal.returns-then-used-ge-BODY_LENGTH

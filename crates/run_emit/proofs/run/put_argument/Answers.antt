@@ -1,7 +1,6 @@
 use native.Mathlib.Omega.{arith}
 use Rattle.run_emit.proofs.Puts.{code_leaf_room}
 use Rattle.run_emit.proofs.Rows.{leaf_tree_room, leaf_tree_put, leaf_code_room, leaf_code_low, leaf_code_put}
-use borrow.Author.Rules.{rules}
 use Rattle.run_emit.proofs.run.put_argument.Goals as goal
 
 pub bounds-input-at : goal.bounds-input-at

@@ -1,7 +1,6 @@
 use mathlib.Core.Path.{sym, ◌∙◌}
 use native.Mathlib.Omega.{arith}
 use Rattle.run_emit.proofs.Rows.{root_use, term_below, term_room, term_low, term_leaf, term_asks, term_gives}
-use borrow.Author.Rules.{rules}
 use Rattle.run_emit.proofs.run.run.Goals as goal
 
 pub is_leaf-is_whole-requires : goal.is_leaf-is_whole-requires

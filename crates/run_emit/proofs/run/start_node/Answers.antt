@@ -1,6 +1,5 @@
 use native.Mathlib.Omega.{arith}
 use Rattle.run_emit.proofs.Rows.{name_inside, numbered_asks, started_zero, started_other}
-use borrow.Author.Rules.{rules}
 use Rattle.run_emit.proofs.run.start_node.Goals as goal
 
 pub bounds-input-p : goal.bounds-input-p

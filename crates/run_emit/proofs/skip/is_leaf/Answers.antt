@@ -1,5 +1,4 @@
 use Rattle.run_emit.proofs.Skips.{leaf_tree, leaf_code}
-use borrow.Author.Rules.{rules}
 use Rattle.run_emit.proofs.skip.is_leaf.Goals as goal
 
 pub returns-in-Tree : goal.returns-in-Tree

@@ -1,6 +1,5 @@
 use native.Mathlib.Omega.{arith}
 use Rattle.run_emit.proofs.Skips.{length_tree, length_two, length_three}
-use borrow.Author.Rules.{rules}
 use Rattle.run_emit.proofs.skip.leaf_length.Goals as goal
 
 pub returns-in-Tree : goal.returns-in-Tree

@@ -1,7 +1,6 @@
 use native.Mathlib.Omega.{arith}
 use Rattle.run_emit.proofs.Puts.{code_leaf_room, code_leaf_three}
 use Rattle.run_emit.proofs.Skips.{number_there, number_none}
-use borrow.Author.Rules.{rules}
 use Rattle.run_emit.proofs.skip.leaf_number.Goals as goal
 
 pub bounds-input-at : goal.bounds-input-at

@@ -1,8 +1,7 @@
 use Prim.Native.Nat.{◌+◌, ◌-◌, ◌*◌}
-use mathlib.Core.Path.{◌≡◌, refl}
-use native.Mathlib.Omega.{arith}
+use mathlib.Core.Path.{◌≡◌}
 use lib.ListN.{length}
-use Rattle.run_emit.proofs.Skips.{Holds, name_some, set_long, asked_in, started, turn_done, turn_popped, popped_in, depth_in, turn_row, turn_to, turn_kind, turn_leaf_in, turn_leaf, turn_name_in, turn_sign_in, turn_place, turn_end, turn_none, turn_room, turn_replaced, turn_pushed}
+use Rattle.run_emit.proofs.Skips.{Holds}
 use Rattle.run_emit.proofs.skip.skip.Given as goal
 
 abbrev pub invariant-loop-q : goal.invariant-loop-q

@@ -1,4 +1,3 @@
-use borrow.Author.Rules.{rules}
 use Rattle.run_emit.proofs.Ends.{asked_kind, end_kept}
 use Rattle.run_emit.proofs.starts.end_of.Goals as goal
 

@@ -1,14 +1,7 @@
-use Prim.Native.Nat.{ℕ, ◌-◌, ◌≤◌}
-use mathlib.Core.List.{List}
-use mathlib.Core.Logic.{⊎_elim}
+use Prim.Native.Nat.{◌-◌}
 use native.Mathlib.Omega.{arith}
-use borrow.Author.Rules.{rules}
 use lib.ListN.{get_or}
-use Rattle.tree_reader.specs.Code.{Codes}
-use Rattle.tree_reader.specs.Typing.{Uses}
-use Rattle.format_translation.specs.Translation.{Translation}
-use Rattle.run_emit.specs.Inner.Runs.{FindAsks}
-use Rattle.run_emit.proofs.Ends.{nth, Reached, find_inside, reached_none, reached_skip, reached_known, reached_more, reached_done}
+use Rattle.run_emit.proofs.Ends.{nth, find_inside, reached_none, reached_skip, reached_known, reached_more, reached_done}
 use Rattle.run_emit.proofs.starts.find.Goals as goal
 use Rattle.run_emit.proofs.starts.find.Goals.{then-e-eq0, else-e-eq0}
 

@@ -1,5 +1,4 @@
 use Rattle.run_emit.proofs.Rows.{last_find, last_known, last_found}
-use borrow.Author.Rules.{rules}
 use Rattle.run_emit.proofs.starts.last_end.Goals as goal
 
 pub returns-then-end-ne0 : goal.returns-then-end-ne0

@@ -1,5 +1,4 @@
 use Rattle.run_emit.proofs.Rows.{start_known}
-use borrow.Author.Rules.{rules}
 use Rattle.run_emit.proofs.starts.start_of.Goals as goal
 
 pub returns-then-at-ne0 : goal.returns-then-at-ne0

@@ -1,6 +1,5 @@
 use native.Mathlib.Omega.{arith}
 use Rattle.run_measure.proofs.Laws.{share_whole, share_none, share_over, share_fits, share_under}
-use borrow.Author.Rules.{rules}
 use Rattle.run_measure.proofs.capped.add_share.Goals as goal
 
 pub overflow_mul-weight : goal.overflow_mul-weight

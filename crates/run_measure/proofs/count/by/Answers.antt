@@ -1,6 +1,5 @@
 use native.Mathlib.Omega.{arith}
 use Rattle.run_measure.proofs.Counts.{by_use, by_none}
-use borrow.Author.Rules.{rules}
 use Rattle.run_measure.proofs.count.by.Goals as goal
 
 pub returns-then-sign-eq4 : goal.returns-then-sign-eq4

@@ -1,11 +1,7 @@
 use Rattle.run_measure.proofs.Counts.{all_done, all_next, all_fits}
-use Rattle.run_measure.specs.Inner.Counting.{count_all}
-use Rattle.format_fields.specs.Inner.Places.{is_whole, places_from, places}
-use Rattle.format_fields.specs.Lists.{all}
-use lib.ListN.{length, get_or}
 use mathlib.Core.Bool.{true}
-use mathlib.Core.Path.{◌≡◌, refl}
-use Prim.Native.Nat.{ℕ, ◌-◌, ◌≤◌}
+use mathlib.Core.Path.{refl}
+use Prim.Native.Nat.{◌-◌}
 use borrow.Author.Rules.{rules}
 use native.Mathlib.Omega.{arith}
 use Rattle.run_measure.proofs.count.count_all.Goals as goal

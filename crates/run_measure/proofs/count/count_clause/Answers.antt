@@ -1,7 +1,6 @@
 use Rattle.run_measure.proofs.Counts.{clause_unknown, clause_plain, clause_numbered, clause_other, clause_low, clause_below}
 use mathlib.Core.Path.{◌∙◌}
 use Prim.Native.Nat.{◌+◌}
-use borrow.Author.Rules.{rules}
 use native.Mathlib.Omega.{arith}
 use Rattle.run_measure.proofs.count.count_clause.Goals as goal
 

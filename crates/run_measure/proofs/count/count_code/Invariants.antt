@@ -1,10 +1,7 @@
-use native.Mathlib.Omega.{arith}
-use borrow.Author.Rules.{rules}
 use Prim.Native.Nat.{◌-◌}
-use mathlib.Core.Path.{◌≡◌, refl, sym, ◌∙◌}
+use mathlib.Core.Path.{◌≡◌}
 use lib.ListN.{length}
 use Rattle.run_measure.specs.Inner.Counting.{count_code, Below}
-use Rattle.run_measure.proofs.Counts.{code_done, code_next, code_below}
 use Rattle.run_measure.proofs.count.count_code.Given as goal
 
 abbrev pub invariant-loop-p : goal.invariant-loop-p

@@ -2,7 +2,6 @@ use Prim.Native.Nat.{◌+◌}
 use mathlib.Core.Path.{refl}
 use native.Mathlib.Omega.{arith}
 use Rattle.run_measure.proofs.Counts.{sign_room, sign_use, sign_plain, sign_other}
-use borrow.Author.Rules.{rules}
 use Rattle.run_measure.proofs.count.count_sign.Goals as goal
 
 pub add_at-requires : goal.add_at-requires

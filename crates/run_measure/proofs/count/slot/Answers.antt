@@ -1,6 +1,5 @@
 use native.Mathlib.Omega.{arith}
 use Rattle.run_measure.proofs.Counts.{slot_plain, slot_numbered, slot_own}
-use borrow.Author.Rules.{rules}
 use Rattle.run_measure.proofs.count.slot.Goals as goal
 
 pub returns-then-sign-eq3 : goal.returns-then-sign-eq3

@@ -1,7 +1,6 @@
 use mathlib.Core.Path.{◌∙◌}
 use Rattle.run_measure.proofs.Counts.{wider_other, wider_under, wider_over}
 use native.Mathlib.Omega.{arith}
-use borrow.Author.Rules.{rules}
 use Rattle.run_measure.proofs.count.wider.Goals as goal
 
 pub returns-then-byte_at-ne40 : goal.returns-then-byte_at-ne40

@@ -1,10 +1,5 @@
-use Rattle.run_measure.specs.Inner.Counting.{width_in, width_of}
-use Rattle.format_fields.specs.Inner.Places.{places_from}
-use lib.ListN.{length}
-use mathlib.Core.Path.{◌≡◌}
-use Prim.Native.Nat.{◌-◌, ◌≤◌}
+use Prim.Native.Nat.{◌-◌}
 use Rattle.run_measure.proofs.Counts.{width_start, width_done, width_next}
-use borrow.Author.Rules.{rules}
 use native.Mathlib.Omega.{arith}
 use Rattle.run_measure.proofs.count.width_of.Goals as goal
 

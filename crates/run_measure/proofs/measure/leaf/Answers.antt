@@ -1,5 +1,4 @@
 use Rattle.run_measure.proofs.Laws.{leaf_end}
-use borrow.Author.Rules.{rules}
 use Rattle.run_measure.proofs.measure.leaf.Goals as goal
 
 pub returns-in-End : goal.returns-in-End

@@ -3,7 +3,6 @@ use mathlib.Core.Logic.{inl}
 use native.Mathlib.Omega.{arith}
 use Rattle.run_measure.proofs.Laws.{step_row}
 use Rattle.run_measure.proofs.Meaning.{down_broken, down_rows, same_as}
-use borrow.Author.Rules.{rules}
 use Rattle.run_measure.proofs.measure.measure.Goals as goal
 
 pub begin-total-requires : goal.begin-total-requires

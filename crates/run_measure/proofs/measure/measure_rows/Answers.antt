@@ -1,14 +1,11 @@
-use Rattle.run_measure.proofs.Rows.{Open, open_in, open_room, open_base, open_start, open_done, open_back, open_deep, open_broken, open_on, open_down, Tidy, tidy_start, tidy_deepest, tidy_back, tidy_on, tidy_down}
+use Rattle.run_measure.proofs.Rows.{open_in, open_room, open_base, open_start, open_done, open_back, open_deep, open_broken, open_on, open_down, tidy_start, tidy_deepest, tidy_back, tidy_on, tidy_down}
 use Rattle.run_measure.proofs.Windows.{kept_then, weighed_only}
-use borrow.Author.Rules.{rules}
-use Prim.Native.Nat.{◌+◌, ◌*◌, ◌-◌}
+use Prim.Native.Nat.{◌+◌, ◌-◌}
 use mathlib.Core.Path.{◌≡◌, refl, sym, ◌∙◌}
 use native.Mathlib.Omega.{arith}
-use lib.ListN.{length}
-use Rattle.run_measure.specs.Inner.Weighing.{window, weigh_at}
-use Rattle.run_measure.specs.Inner.Descent.{down_row}
+use Rattle.run_measure.specs.Inner.Weighing.{window}
 use Rattle.run_measure.proofs.Laws.{step_row, deeper}
-use Rattle.run_measure.proofs.Learning.{Learning, learn_start, learn_in, learn_back, learn_on, learn_down}
+use Rattle.run_measure.proofs.Learning.{learn_start, learn_in, learn_back, learn_on, learn_down}
 use Rattle.run_measure.proofs.measure.measure_rows.Goals as goal
 
 pub loop-end-init : goal.loop-end-init

@@ -1,5 +1,4 @@
 use Rattle.run_measure.proofs.Laws.{out_more, out_none}
-use borrow.Author.Rules.{rules}
 use Rattle.run_measure.proofs.measure.out_of_levels.Goals as goal
 
 pub returns-then-left-ne0 : goal.returns-then-left-ne0

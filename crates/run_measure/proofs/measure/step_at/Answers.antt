@@ -7,7 +7,6 @@ use Rattle.tree_reader.specs.declared.node.Syntax.TheVariants.{Tree}
 use Rattle.tree_reader.proofs.Laws.{place_tree, class_in, named_node, named_in, named_kinds, named_end}
 use Rattle.run_measure.proofs.Laws.{token_node, token_goes, token_in, name_goes, leaf_childless, name_childless}
 use Rattle.run_measure.proofs.Learning.{token_decides, name_decides}
-use borrow.Author.Rules.{rules}
 use Rattle.run_measure.proofs.measure.step_at.Goals as goal
 
 pub token-requires : goal.token-requires

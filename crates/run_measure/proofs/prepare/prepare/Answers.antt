@@ -1,6 +1,5 @@
 use native.Mathlib.Omega.{arith}
 use Rattle.run_measure.proofs.Prepared.{body_fields, prepared}
-use borrow.Author.Rules.{rules}
 use Rattle.run_measure.proofs.prepare.prepare.Goals as goal
 
 pub count_all-requires : goal.count_all-requires

@@ -1,4 +1,3 @@
-use borrow.Author.Rules.{rules}
 use Rattle.run_measure.proofs.Entries.{add_out, add_in}
 use Rattle.run_measure.proofs.table.add_at.Goals as goal
 

@@ -1,7 +1,5 @@
 use lib.ListN.{get_or}
-use native.Mathlib.Omega.{arith}
 use Rattle.run_measure.proofs.Counts.{entry_full, entry_out, entry_in, write_second, write_third, write_head}
-use borrow.Author.Rules.{rules}
 use Rattle.run_measure.proofs.table.add_entry.Goals as goal
 
 pub returns-then-entries-e : goal.returns-then-entries-e

@@ -1,7 +1,5 @@
-use native.Mathlib.Omega.{arith}
-use borrow.Author.Rules.{rules}
 use lib.ListN.{get_or}
-use Rattle.run_measure.proofs.Windows.{Entering, enter_start, enter_next, enter_less, enter_done}
+use Rattle.run_measure.proofs.Windows.{Entering}
 use Rattle.run_measure.proofs.weigh.add_entries.Given as goal
 
 abbrev pub invariant-loop-e : goal.invariant-loop-e

@@ -2,7 +2,6 @@ use Prim.Native.Nat.{◌%◌}
 use mathlib.Core.Path.{refl}
 use native.Mathlib.Omega.{arith}
 use Rattle.run_measure.proofs.Windows.{one_use, one_adds}
-use borrow.Author.Rules.{rules}
 use Rattle.run_measure.proofs.weigh.add_one.Goals as goal
 
 pub returns-then-width-to : goal.returns-then-width-to

@@ -1,5 +1,4 @@
 use Rattle.run_measure.proofs.Windows.{before_none, before_some}
-use borrow.Author.Rules.{rules}
 use Rattle.run_measure.proofs.weigh.before_entry.Goals as goal
 
 pub returns-then-e-next : goal.returns-then-e-next

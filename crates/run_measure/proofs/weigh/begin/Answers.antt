@@ -1,7 +1,6 @@
 use mathlib.Core.Path.{refl}
 use native.Mathlib.Omega.{arith}
 use Rattle.run_measure.proofs.Windows.{begin_out, begun}
-use borrow.Author.Rules.{rules}
 use Rattle.run_measure.proofs.weigh.begin.Goals as goal
 
 pub returns-then-width-at : goal.returns-then-width-at

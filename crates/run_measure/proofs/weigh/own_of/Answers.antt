@@ -1,6 +1,5 @@
-use borrow.Author.Rules.{rules}
 use native.Mathlib.Omega.{arith}
-use Rattle.run_measure.proofs.Wiping.{Owning, own_start, own_next, own_less, own_done}
+use Rattle.run_measure.proofs.Wiping.{own_start, own_next, own_less, own_done}
 use Rattle.run_measure.proofs.weigh.own_of.Goals as goal
 
 pub count_in-requires : goal.count_in-requires

@@ -1,6 +1,4 @@
-use borrow.Author.Rules.{rules}
-use native.Mathlib.Omega.{arith}
-use Rattle.run_measure.proofs.Wiping.{Owning, own_start, own_next, own_less, own_done}
+use Rattle.run_measure.proofs.Wiping.{Owning}
 use Rattle.run_measure.proofs.weigh.own_of.Given as goal
 
 abbrev pub invariant-loop-e : goal.invariant-loop-e

@@ -1,5 +1,4 @@
 use Rattle.run_measure.proofs.Wiping.{own_pass, own_adds}
-use borrow.Author.Rules.{rules}
 use Rattle.run_measure.proofs.weigh.own_one.Goals as goal
 
 pub returns-then-key-ne0 : goal.returns-then-key-ne0

@@ -1,6 +1,5 @@
 use native.Mathlib.Omega.{arith}
 use Rattle.run_measure.proofs.Windows.{none_under, one_under, weigh_kept, weigh_is, weigh_sums, weigh_none}
-use borrow.Author.Rules.{rules}
 use Rattle.run_measure.proofs.weigh.weigh.Goals as goal
 
 pub add_one-total-requires : goal.add_one-total-requires

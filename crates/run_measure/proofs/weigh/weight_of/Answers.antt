@@ -1,6 +1,5 @@
 use mathlib.Core.Path.{sym}
 use Rattle.run_measure.proofs.Windows.{window_out, window_in}
-use borrow.Author.Rules.{rules}
 use Rattle.run_measure.proofs.weigh.weight_of.Goals as goal
 
 pub returns-then-width-number : goal.returns-then-width-number

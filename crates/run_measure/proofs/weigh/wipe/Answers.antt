@@ -1,7 +1,6 @@
 use mathlib.Core.Path.{◌∙◌}
-use borrow.Author.Rules.{rules}
 use native.Mathlib.Omega.{arith}
-use Rattle.run_measure.proofs.Wiping.{Wiping, wipe_start, wipe_next, wipe_less, wipe_done}
+use Rattle.run_measure.proofs.Wiping.{wipe_start, wipe_next, wipe_less, wipe_done}
 use Rattle.run_measure.proofs.weigh.wipe.Goals as goal
 
 pub wipe_one-requires : goal.wipe_one-requires

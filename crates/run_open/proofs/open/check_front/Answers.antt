@@ -2,7 +2,6 @@ use mathlib.Core.Path.{sym}
 use native.Mathlib.Omega.{arith}
 use lib.Seq.{length-take-le}
 use Rattle.run_open.proofs.Opening.{part_zero, front_begun}
-use borrow.Author.Rules.{rules}
 use Rattle.run_open.proofs.open.check_front.Goals as goal
 
 pub slice_bounds-check_kept-end-2 : goal.slice_bounds-check_kept-end-2

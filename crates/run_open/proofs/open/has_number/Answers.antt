@@ -1,6 +1,5 @@
 use native.Mathlib.Omega.{arith}
 use Rattle.run_open.proofs.Opening.{number_is}
-use borrow.Author.Rules.{rules}
 use Rattle.run_open.proofs.open.has_number.Goals as goal
 
 pub returns : goal.returns

@@ -1,6 +1,5 @@
 use mathlib.Core.Path.{sym}
 use Rattle.run_operation.proofs.Front.{counted_front, front_length, front_same, front_built}
-use borrow.Author.Rules.{rules}
 use Rattle.run_operation.proofs.run.begin.Goals as goal
 
 pub slice_bounds-prepare-end : goal.slice_bounds-prepare-end

@@ -1,5 +1,4 @@
 use Rattle.run_operation.proofs.Laws.{tree_more, tree_long, tree_whole, tree_fits, tree_deep, tree_broken}
-use borrow.Author.Rules.{rules}
 use Rattle.run_operation.proofs.run.finish.Goals as goal
 
 pub returns-then-e-tree : goal.returns-then-e-tree

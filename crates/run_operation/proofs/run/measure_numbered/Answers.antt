@@ -2,7 +2,6 @@ use mathlib.Core.Path.{refl}
 use mathlib.Core.Logic.{inl}
 use native.Mathlib.Omega.{arith}
 use Rattle.tree_reader.proofs.Lookup.{zeros}
-use borrow.Author.Rules.{rules}
 use Rattle.run_operation.proofs.run.measure_numbered.Goals as goal
 
 pub measure_with-requires : goal.measure_with-requires

@@ -4,7 +4,6 @@ use native.Mathlib.Omega.{arith}
 use Rattle.tree_reader.proofs.Lookup.{zeros}
 use Rattle.run_operation.proofs.Laws.{rises, formed, prepared_indexed, measures}
 use Rattle.run_operation.proofs.Front.{counted_none}
-use borrow.Author.Rules.{rules}
 use Rattle.run_operation.proofs.run.measure_single.Goals as goal
 
 pub begin-requires : goal.begin-requires

@@ -2,7 +2,6 @@ use mathlib.Core.Path.{refl}
 use native.Mathlib.Omega.{arith}
 use Rattle.tree_reader.proofs.Lookup.{zeros}
 use Rattle.run_operation.proofs.Laws.{rises, formed, prepared_indexed, measures}
-use borrow.Author.Rules.{rules}
 use Rattle.run_operation.proofs.run.measure_with.Goals as goal
 
 pub begin-requires : goal.begin-requires

@@ -2,7 +2,6 @@ use mathlib.Core.List.{[]}
 use native.Mathlib.Omega.{arith}
 use Rattle.tree_reader.proofs.Lookup.{zeros}
 use Rattle.run_operation.proofs.Laws.{tree_asks, reads_none}
-use borrow.Author.Rules.{rules}
 use Rattle.run_operation.proofs.run.put_tree.Goals as goal
 
 pub run-requires : goal.run-requires

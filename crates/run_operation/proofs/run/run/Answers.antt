@@ -5,7 +5,6 @@ use Rattle.tree_reader.proofs.Lookup.{zeros}
 use Rattle.format_translation.proofs.Accepted.{accepts}
 use Rattle.run_open.proofs.Opening.{prepared_as}
 use Rattle.run_operation.proofs.Laws.{run_refused, root_past, run_accepted}
-use borrow.Author.Rules.{rules}
 use Rattle.run_operation.proofs.run.run.Goals as goal
 
 pub open_translation-answer-requires : goal.open_translation-answer-requires

@@ -1,5 +1,4 @@
 use Rattle.tree_reader.proofs.Lookup.{zeros}
-use borrow.Author.Rules.{rules}
 use Rattle.run_operation.proofs.run.run_numbered.Goals as goal
 
 pub measure_numbered-result-requires : goal.measure_numbered-result-requires

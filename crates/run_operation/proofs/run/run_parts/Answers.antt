@@ -1,7 +1,5 @@
 use mathlib.Core.Path.{sym, ◌∙◌}
-use borrow.Author.Tests.{not-true, not-false}
 use Rattle.run_operation.proofs.Laws.{kind_out}
-use borrow.Author.Rules.{rules}
 use Rattle.run_operation.proofs.run.run_parts.Goals as goal
 
 pub returns-then-not-has_number : goal.returns-then-not-has_number

@@ -1,6 +1,5 @@
 use native.Mathlib.Omega.{arith}
 use Rattle.tree_reader.proofs.Lookup.{zeros}
-use borrow.Author.Rules.{rules}
 use Rattle.run_operation.proofs.run.run_single.Goals as goal
 
 pub measure_single-result-requires : goal.measure_single-result-requires

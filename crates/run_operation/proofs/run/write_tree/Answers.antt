@@ -1,5 +1,4 @@
 use Rattle.run_operation.proofs.Laws.{tree_written, tree_full}
-use borrow.Author.Rules.{rules}
 use Rattle.run_operation.proofs.run.write_tree.Goals as goal
 
 pub put_tree-p-requires : goal.put_tree-p-requires

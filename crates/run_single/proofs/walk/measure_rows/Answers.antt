@@ -1,16 +1,11 @@
 use Rattle.run_single.proofs.Laws.{row_start}
-use Rattle.run_measure.proofs.Learning.{Learning, learn_start, learn_in, learn_back, learn_on, learn_down}
-use Rattle.run_measure.proofs.Rows.{Open, open_in, open_done, open_back, open_deep, open_broken, open_on, open_down}
+use Rattle.run_measure.proofs.Learning.{learn_start, learn_in, learn_back, learn_on, learn_down}
+use Rattle.run_measure.proofs.Rows.{open_in, open_done, open_back, open_deep, open_broken, open_on, open_down}
 use Rattle.run_measure.proofs.Laws.{step_row, deeper}
 use Rattle.run_measure.proofs.Windows.{kept_all}
-use Rattle.run_measure.specs.Inner.Descent.{down_row}
-use Rattle.run_measure.specs.Inner.Weighing.{weigh_at, once_by}
-use lib.ListN.{length, get_or}
 use native.Mathlib.Omega.{arith}
-use mathlib.Core.List.{[]}
-use mathlib.Core.Path.{◌≡◌, refl, sym, ◌∙◌}
-use Prim.Native.Nat.{◌+◌, ◌*◌, ◌-◌}
-use borrow.Author.Rules.{rules}
+use mathlib.Core.Path.{refl, sym, ◌∙◌}
+use Prim.Native.Nat.{◌-◌}
 use Rattle.run_single.proofs.walk.measure_rows.Goals as goal
 
 pub loop-end-init : goal.loop-end-init

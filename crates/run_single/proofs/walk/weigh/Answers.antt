@@ -1,6 +1,5 @@
 use Rattle.run_single.proofs.Laws.{weigh_kept, weigh_is}
 use native.Mathlib.Omega.{arith}
-use borrow.Author.Rules.{rules}
 use Rattle.run_single.proofs.walk.weigh.Goals as goal
 
 pub returns : goal.returns

@@ -1,6 +1,5 @@
 use native.Mathlib.Omega.{arith}
 use Rattle.run_table.proofs.Tables.{start_with, start_without}
-use borrow.Author.Rules.{rules}
 use Rattle.run_table.proofs.hints.code_start.Goals as goal
 
 pub returns-then-body-p-eq-NUMBERED_CLAUSE : goal.returns-then-body-p-eq-NUMBERED_CLAUSE

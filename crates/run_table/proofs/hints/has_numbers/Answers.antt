@@ -1,7 +1,4 @@
 use Prim.Native.Nat.{◌-◌}
-use native.Mathlib.Omega.{arith}
-use lib.ListN.{length}
-use borrow.Author.Rules.{rules}
 use Rattle.run_table.proofs.hints.has_numbers.Goals as goal
 
 pub loop-p-init : goal.loop-p-init

@@ -1,7 +1,5 @@
 use Prim.Native.Nat.{◌-◌}
-use native.Mathlib.Omega.{arith}
 use lib.ListN.{length}
-use borrow.Author.Rules.{rules}
 use Rattle.run_table.proofs.hints.has_numbers.Given as goal
 
 abbrev pub invariant-loop-p : goal.invariant-loop-p

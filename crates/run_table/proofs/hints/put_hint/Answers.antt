@@ -1,6 +1,5 @@
 use native.Mathlib.Omega.{arith}
 use Rattle.run_table.proofs.Hinting.{hint_put}
-use borrow.Author.Rules.{rules}
 use Rattle.run_table.proofs.hints.put_hint.Goals as goal
 
 pub returns : goal.returns

@@ -1,8 +1,6 @@
-use Prim.Native.Nat.{◌-◌, ◌≤◌}
-use mathlib.Core.Path.{◌≡◌}
+use Prim.Native.Nat.{◌-◌}
 use native.Mathlib.Omega.{arith}
-use lib.ListN.{length}
-use Rattle.run_table.proofs.Hinting.{Hinting, hinting_starts, hinting_next}
+use Rattle.run_table.proofs.Hinting.{hinting_starts, hinting_next}
 use borrow.Author.Rules.{rules}
 use Rattle.run_table.proofs.hints.put_hints.Goals as goal
 

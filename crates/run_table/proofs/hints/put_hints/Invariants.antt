@@ -1,9 +1,7 @@
 use Prim.Native.Nat.{◌-◌, ◌≤◌}
 use mathlib.Core.Path.{◌≡◌}
-use native.Mathlib.Omega.{arith}
 use lib.ListN.{length}
-use Rattle.run_table.proofs.Hinting.{Hinting, hinting_starts, hinting_next}
-use borrow.Author.Rules.{rules}
+use Rattle.run_table.proofs.Hinting.{Hinting}
 use Rattle.run_table.proofs.hints.put_hints.Given as goal
 
 abbrev pub invariant-loop-p : goal.invariant-loop-p

@@ -1,9 +1,6 @@
 use Prim.Native.Nat.{◌-◌}
-use mathlib.Core.Path.{◌≡◌}
 use native.Mathlib.Omega.{arith}
-use lib.ListN.{length}
 use borrow.Author.Rules.{rules}
-use Rattle.run_table.specs.Inner.Filling.{Beside}
 use Rattle.run_table.proofs.Hinting.{beside_none, beside_then}
 use Rattle.run_table.proofs.hints.put_ranks.Goals as goal
 

@@ -1,6 +1,5 @@
 use native.Mathlib.Omega.{arith}
 use Rattle.run_table.proofs.Hinting.{beside_set}
-use borrow.Author.Rules.{rules}
 use Rattle.run_table.proofs.hints.rank_use.Goals as goal
 
 pub returns : goal.returns

@@ -1,12 +1,9 @@
-use mathlib.Core.Path.{◌≡◌, refl, ◌∙◌}
+use mathlib.Core.Path.{refl, ◌∙◌}
 use native.Mathlib.Omega.{arith}
-use lib.ListN.{length}
-use borrow.Author.Rules.{rules}
-use Rattle.tree_reader.specs.Inner.Positions.{KindsIn}
 use Rattle.tree_reader.proofs.Laws.{kinds_in, name_in}
-use Rattle.run_table.specs.Inner.Filling.{target_index, Beside}
-use Rattle.run_table.proofs.Spans.{Turn, below_none, below_then, sound_beside, asks_beside, set_beside, span_past, span_argument, span_leaf, span_leafed, leaf_low, span_deep, span_unknown, turn_starts, turn_next, turn_ends, ends_as}
-use Prim.Native.Nat.{ℕ, ◌+◌, ◌-◌, ◌≤◌, ◌<◌}
+use Rattle.run_table.specs.Inner.Filling.{target_index}
+use Rattle.run_table.proofs.Spans.{below_none, below_then, sound_beside, asks_beside, set_beside, span_past, span_argument, span_leaf, span_leafed, leaf_low, span_deep, span_unknown, turn_starts, turn_next, turn_ends, ends_as}
+use Prim.Native.Nat.{◌+◌, ◌-◌}
 use Rattle.run_table.proofs.prepare.+span_code.Goals as goal
 
 pub returns-then-body-at : goal.returns-then-body-at

@@ -1,7 +1,5 @@
 use native.Mathlib.Omega.{arith}
-use Rattle.format_fields.proofs.Splices.{length_spliced}
 use Rattle.run_table.proofs.Tables.{filled}
-use borrow.Author.Rules.{rules}
 use Rattle.run_table.proofs.prepare.fill.Goals as goal
 
 pub put_bytes-requires : goal.put_bytes-requires

@@ -2,7 +2,6 @@ use mathlib.Core.Path.{◌∙◌}
 use Prim.Native.Nat.{◌+◌}
 use native.Mathlib.Omega.{arith}
 use Rattle.run_table.proofs.Tables.{ranked_long, target_indexed, source_kept, ready}
-use borrow.Author.Rules.{rules}
 use Rattle.run_table.proofs.prepare.fill_all.Goals as goal
 
 pub put_hints-requires : goal.put_hints-requires

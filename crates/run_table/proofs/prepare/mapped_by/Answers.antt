@@ -1,5 +1,4 @@
 use Rattle.run_table.proofs.Tables.{mapped_there, mapped_none}
-use borrow.Author.Rules.{rules}
 use Rattle.run_table.proofs.prepare.mapped_by.Goals as goal
 
 pub returns-then-next-eq0 : goal.returns-then-next-eq0

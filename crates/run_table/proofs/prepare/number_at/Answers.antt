@@ -1,5 +1,4 @@
 use Rattle.run_table.proofs.Tables.{with_number, no_number}
-use borrow.Author.Rules.{rules}
 use Rattle.run_table.proofs.prepare.number_at.Goals as goal
 
 pub returns-then-body-p-eq-NUMBERED_CLAUSE : goal.returns-then-body-p-eq-NUMBERED_CLAUSE

@@ -1,7 +1,6 @@
 use Prim.Native.Nat.{◌+◌, ◌*◌}
 use native.Mathlib.Omega.{arith}
 use Rattle.run_table.proofs.Tables.{place_is}
-use borrow.Author.Rules.{rules}
 use Rattle.run_table.proofs.prepare.place_of.Goals as goal
 
 pub overflow_cast-result : goal.overflow_cast-result

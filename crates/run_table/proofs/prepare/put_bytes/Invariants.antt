@@ -1,11 +1,7 @@
 use Prim.Native.Nat.{◌-◌, ◌≤◌}
-use mathlib.Core.Path.{◌≡◌, refl}
-use native.Mathlib.Omega.{arith}
+use mathlib.Core.Path.{◌≡◌}
 use lib.ListN.{length, take}
-use borrow.Author.Rules.{rules}
 use Rattle.format_fields.specs.Inner.Writing.{spliced}
-use Rattle.format_fields.proofs.Splices.{nothing_spliced}
-use Rattle.run_table.proofs.Tables.{byte_put, bytes_put}
 use Rattle.run_table.proofs.prepare.put_bytes.Given as goal
 
 abbrev pub invariant-loop-i : goal.invariant-loop-i

@@ -1,6 +1,5 @@
 use mathlib.Core.Path.{refl}
 use Rattle.run_table.proofs.Itemed.{clause_other, clause_far, clause_put}
-use borrow.Author.Rules.{rules}
 use Rattle.run_table.proofs.prepare.put_clause.Goals as goal
 
 pub returns-then-body-p-ne-CLAUSE : goal.returns-then-body-p-ne-CLAUSE

@@ -1,9 +1,6 @@
-use borrow.Author.Rules.{rules}
 use Prim.Native.Nat.{◌-◌}
-use mathlib.Core.Path.{◌∙◌}
-use native.Mathlib.Omega.{arith}
 use lib.ListN.{length}
-use Rattle.run_table.proofs.Itemed.{Putting, putting_starts, putting_next, putting_ends}
+use Rattle.run_table.proofs.Itemed.{Putting}
 use Rattle.run_table.proofs.prepare.put_clauses.Given as goal
 
 abbrev pub invariant-loop-p : goal.invariant-loop-p

@@ -1,6 +1,5 @@
 use native.Mathlib.Omega.{arith}
 use Rattle.run_table.proofs.Tables.{begun, behind_zero}
-use borrow.Author.Rules.{rules}
 use Rattle.run_table.proofs.prepare.put_indexes.Goals as goal
 
 pub put_index-requires : goal.put_index-requires

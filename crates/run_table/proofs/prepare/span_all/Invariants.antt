@@ -1,11 +1,7 @@
 use Prim.Native.Nat.{◌-◌}
-use mathlib.Core.Path.{◌∙◌}
-use native.Mathlib.Omega.{arith}
 use lib.ListN.{length}
-use borrow.Author.Rules.{rules}
 use Rattle.run_table.specs.Inner.Filling.{target_index, Beside}
-use Rattle.run_table.proofs.Spans.{below_none, below_then, sound_beside, fields_beside}
-use Rattle.run_table.proofs.Clauses.{Walk, walk_starts, walk_next, walk_ends}
+use Rattle.run_table.proofs.Clauses.{Walk}
 use Rattle.run_table.proofs.prepare.span_all.Given as goal
 
 abbrev pub invariant-loop-p : goal.invariant-loop-p

@@ -1,7 +1,6 @@
 use mathlib.Core.Path.{sym, ◌∙◌}
 use Rattle.run_table.proofs.Clauses.{field_other, field_past, field_spanned}
 use Rattle.run_table.proofs.Spans.{below_none}
-use borrow.Author.Rules.{rules}
 use Rattle.run_table.proofs.prepare.span_field.Goals as goal
 
 pub returns-then-not-is_clause : goal.returns-then-not-is_clause

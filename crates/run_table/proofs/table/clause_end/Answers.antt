@@ -1,6 +1,5 @@
 use mathlib.Core.Path.{sym, ◌∙◌}
 use Rattle.run_table.proofs.Finding.{clause_room, end_span, end_two, end_three}
-use borrow.Author.Rules.{rules}
 use Rattle.run_table.proofs.table.clause_end.Goals as goal
 
 pub body_at-sign-requires : goal.body_at-sign-requires

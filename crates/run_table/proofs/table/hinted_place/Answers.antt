@@ -1,5 +1,4 @@
 use native.Mathlib.Omega.{arith}
-use borrow.Author.Rules.{rules}
 use Rattle.run_table.proofs.table.hinted_place.Goals as goal
 
 pub returns-then-rank-ge-HINT_COUNT : goal.returns-then-rank-ge-HINT_COUNT

@@ -1,5 +1,4 @@
 use Rattle.run_table.proofs.Finding.{other_tag, other_kind, other_name, by_number}
-use borrow.Author.Rules.{rules}
 use Rattle.run_table.proofs.table.is_numbered.Goals as goal
 
 pub returns-then-body_at : goal.returns-then-body_at

@@ -1,6 +1,5 @@
 use mathlib.Core.Path.{sym, ◌∙◌}
 use Rattle.run_table.proofs.Finding.{numbered_asks, hint_hit}
-use borrow.Author.Rules.{rules}
 use Rattle.run_table.proofs.table.numbered_start.Goals as goal
 
 pub returns-then-p-eq0 : goal.returns-then-p-eq0

@@ -1,5 +1,4 @@
 use Prim.Native.Nat.{◌-◌, ◌≤◌}
-use borrow.Author.Rules.{rules}
 use Rattle.run_table.proofs.table.rank_of.Given as goal
 
 abbrev pub invariant-loop-p : goal.invariant-loop-p

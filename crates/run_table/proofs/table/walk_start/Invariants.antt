@@ -1,8 +1,5 @@
 use Prim.Native.Nat.{◌-◌}
-use mathlib.Core.Path.{sym, ◌∙◌}
-use native.Mathlib.Omega.{arith}
-use borrow.Author.Rules.{rules}
-use Rattle.run_table.proofs.Finding.{Finding, finding_starts, finding_hit, finding_next, finding_ends}
+use Rattle.run_table.proofs.Finding.{Finding}
 use Rattle.run_table.proofs.table.walk_start.Given as goal
 
 abbrev pub invariant-loop-p : goal.invariant-loop-p

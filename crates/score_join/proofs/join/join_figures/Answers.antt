@@ -1,17 +1,9 @@
-use Prim.Native.Nat.{ℕ, ◌-◌}
-use mathlib.Core.Path.{◌≡◌, refl, sym, ◌∙◌}
+use Prim.Native.Nat.{◌-◌}
+use mathlib.Core.Path.{refl, sym, ◌∙◌}
 use native.Mathlib.Omega.{arith}
-use lib.ListN.{length}
-use borrow.Author.Rules.{rules}
-use borrow.Author.Tests.{not-true, not-false}
-use Rattle.format_language.specs.Language.{Language}
-use Rattle.tree_reader.specs.Code.{Code}
-use Rattle.tree_reader.specs.Typing.{Uses}
-use Rattle.score_tree.specs.Linear.{Loads}
-use Rattle.score_tree.specs.Inner.Terms.{TermAsks}
 use Rattle.score_join.proofs.Places.{zeros_asked, row_out, row_back}
 use Rattle.score_join.proofs.Puts.{written_long}
-use Rattle.score_join.proofs.Joins.{Figuring, figure_begin, figure_room, figure_outside, figure_next, figure_end, puts_outside}
+use Rattle.score_join.proofs.Joins.{figure_begin, figure_room, figure_outside, figure_next, figure_end, puts_outside}
 use Rattle.score_join.proofs.join.join_figures.Goals as goal
 
 pub form_at-requires : goal.form_at-requires

@@ -4,7 +4,6 @@ use native.Mathlib.Omega.{arith}
 use Rattle.tree_reader.proofs.Lookup.{zeros}
 use Rattle.score_tree.specs.LoadTable.{figure_of}
 use Rattle.score_join.proofs.Answering.{parts_held, held_outside, held_inside, held_short, held_put}
-use borrow.Author.Rules.{rules}
 use Rattle.score_join.proofs.join.join_held.Goals as goal
 
 pub build_items-requires : goal.build_items-requires

@@ -1,9 +1,8 @@
 use native.Mathlib.Omega.{arith}
 use Prim.Native.Nat.{◌+◌}
-use mathlib.Core.Path.{refl, ◌∙◌}
+use mathlib.Core.Path.{refl}
 use Rattle.score_join.proofs.Joins.{kind_in, key_is, production_in, clause_term, load_puts}
 use Rattle.score_join.proofs.Puts.{written_long}
-use borrow.Author.Rules.{rules}
 use Rattle.score_join.proofs.join.join_load.Goals as goal
 
 pub overflow_add-p : goal.overflow_add-p

@@ -1,13 +1,7 @@
-use borrow.Author.Rules.{rules}
 use Prim.Native.Nat.{◌-◌}
-use mathlib.Core.Path.{◌≡◌, refl, ◌∙◌}
+use mathlib.Core.Path.{refl, ◌∙◌}
 use native.Mathlib.Omega.{arith}
-use lib.ListN.{length}
-use Rattle.format_translation.specs.Translation.{Translation}
-use Rattle.score_tree.specs.Linear.{Loads}
-use Rattle.score_join.specs.Inner.Loading.{Parts}
-use Rattle.score_join.proofs.Joins.{Joins, joins_begin, joins_end, entry_in, joins_class, load_asks, join_few, join_room, joins_outside, joins_next, puts_outside}
-use Rattle.score_join.proofs.Puts.{written_long}
+use Rattle.score_join.proofs.Joins.{joins_begin, joins_end, entry_in, joins_class, load_asks, join_few, join_room, joins_outside, joins_next, puts_outside}
 use Rattle.score_join.proofs.join.join_loads.Goals as goal
 
 pub loop-p-init : goal.loop-p-init

@@ -1,7 +1,5 @@
 use mathlib.Core.Path.{sym, ◌∙◌}
-use borrow.Author.Tests.{not-true, not-false}
 use Rattle.score_join.proofs.Answering.{numbers_unfit, numbers_plain}
-use borrow.Author.Rules.{rules}
 use Rattle.score_join.proofs.join.join_parts.Goals as goal
 
 pub is_plain-requires : goal.is_plain-requires

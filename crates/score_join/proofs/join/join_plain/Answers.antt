@@ -1,9 +1,7 @@
 use mathlib.Core.Path.{refl}
 use mathlib.Core.List.{[]}
-use borrow.Author.Tests.{not-true, not-false}
 use Rattle.score_tree.proofs.Answering.{zeros_small}
 use Rattle.score_join.proofs.Answering.{rising_target, table_broken, the_table, table_is, table_joined}
-use borrow.Author.Rules.{rules}
 use Rattle.score_join.proofs.join.join_plain.Goals as goal
 
 pub read_table-requires : goal.read_table-requires

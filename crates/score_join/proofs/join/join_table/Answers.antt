@@ -3,7 +3,6 @@ use mathlib.Core.Path.{refl}
 use Rattle.tree_reader.proofs.Lookup.{zeros}
 use Rattle.format_translation.proofs.Accepted.{accepts}
 use Rattle.score_join.proofs.Answering.{join_refused, parts_checked, behind, join_accepted}
-use borrow.Author.Rules.{rules}
 use Rattle.score_join.proofs.join.join_table.Goals as goal
 
 pub check_kept-answer-requires : goal.check_kept-answer-requires

@@ -2,7 +2,6 @@ use mathlib.Core.Path.{◌∙◌, ap}
 use mir.Facts.{to_z-of_z}
 use Rattle.score_tree.specs.Figures.{unsigned}
 use Rattle.score_join.proofs.Puts.{figure_put}
-use borrow.Author.Rules.{rules}
 use Rattle.score_join.proofs.join.put_figure.Goals as goal
 
 pub returns : goal.returns

@@ -1,5 +1,4 @@
 use Rattle.score_join.proofs.Puts.{head_first, head_third, head_fourth, head_same, head_put}
-use borrow.Author.Rules.{rules}
 use Rattle.score_join.proofs.join.put_head.Goals as goal
 
 pub put_pair-requires : goal.put_pair-requires

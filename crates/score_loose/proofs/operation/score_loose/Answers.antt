@@ -1,4 +1,3 @@
-use borrow.Author.Rules.{rules}
 use Rattle.score_loose.proofs.Answering.{ends_are}
 use Rattle.score_loose.proofs.operation.score_loose.Goals as goal
 

@@ -1,7 +1,6 @@
 use mir.Facts.{to_z-of_z}
 use mir.Syntax.{w64}
 use mathlib.Core.Path.{◌∙◌}
-use borrow.Author.Rules.{rules}
 use Rattle.score_tree.proofs.Integers.{told}
 use Rattle.score_tree.proofs.Weighing.{other_taken, same_taken}
 use Rattle.score_tree.proofs.figures.add_end.Goals as goal

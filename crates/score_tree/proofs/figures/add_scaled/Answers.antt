@@ -2,7 +2,6 @@ use mathlib.Core.Path.{◌∙◌}
 use mir.Syntax.{w64}
 use mir.Facts.{to_z-of_z}
 use Rattle.score_tree.proofs.Integers.{told, scaled_fits, sum_fits, sum_is}
-use borrow.Author.Rules.{rules}
 use Rattle.score_tree.proofs.figures.add_scaled.Goals as goal
 
 pub overflow_mul-result : goal.overflow_mul-result

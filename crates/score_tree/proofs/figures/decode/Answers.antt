@@ -1,5 +1,4 @@
 use Rattle.score_tree.proofs.Integers.{decode_low, decode_fits, decode_high}
-use borrow.Author.Rules.{rules}
 use Rattle.score_tree.proofs.figures.decode.Goals as goal
 
 pub returns-then-n-lt32768 : goal.returns-then-n-lt32768

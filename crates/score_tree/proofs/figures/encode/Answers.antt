@@ -1,6 +1,5 @@
 use mir.Facts.{to_z-of_z}
 use Rattle.score_tree.proofs.Integers.{neg_fits, neg_cast, neg_is, pos_cast, pos_is}
-use borrow.Author.Rules.{rules}
 use Rattle.score_tree.proofs.figures.encode.Goals as goal
 
 pub overflow_add-result : goal.overflow_add-result

@@ -2,7 +2,6 @@ use mathlib.Core.Path.{◌∙◌, ap}
 use mir.Syntax.{w32}
 use Rattle.score_tree.specs.Figures.{figure_at, signed}
 use Rattle.score_tree.proofs.Integers.{told}
-use borrow.Author.Rules.{rules}
 use Rattle.score_tree.proofs.figures.figure.Goals as goal
 
 pub returns : goal.returns

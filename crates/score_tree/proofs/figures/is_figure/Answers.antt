@@ -1,6 +1,5 @@
 use mir.Facts.{to_z-of_z}
 use Rattle.score_tree.proofs.Integers.{range_low, range_high}
-use borrow.Author.Rules.{rules}
 use Rattle.score_tree.proofs.figures.is_figure.Goals as goal
 
 pub returns-then-z-ltminus32768 : goal.returns-then-z-ltminus32768

@@ -1,6 +1,5 @@
 use mir.Facts.{to_z-of_z}
 use Rattle.score_tree.proofs.Integers.{range_low, range_high}
-use borrow.Author.Rules.{rules}
 use Rattle.score_tree.proofs.figures.is_score.Goals as goal
 
 pub returns-then-z-ltminus1000000000 : goal.returns-then-z-ltminus1000000000

@@ -1,12 +1,9 @@
 use Prim.Native.Nat.{◌-◌}
-use mir.Syntax.{w32, w64}
-use mir.Val.{to_z}
+use mir.Syntax.{w64}
 use mir.Facts.{to_z-of_z}
-use native.Mathlib.Omega.{arith}
-use mathlib.Core.Path.{◌≡◌, refl, sym, ap, ◌∙◌}
+use mathlib.Core.Path.{refl, ◌∙◌}
 use Rattle.score_tree.proofs.Integers.{told}
-use Rattle.score_tree.proofs.Weighing.{Down, down_begin, down_small, down_next, down_end, elem_back, elem_near, factor_back, factor_near}
-use borrow.Author.Rules.{rules}
+use Rattle.score_tree.proofs.Weighing.{down_begin, down_small, down_next, down_end, elem_back, elem_near, factor_back, factor_near}
 use Rattle.score_tree.proofs.figures.weigh.Goals as goal
 
 pub loop-i-init : goal.loop-i-init

@@ -1,22 +1,14 @@
-use Prim.Native.Nat.{◌+◌, ◌-◌, ◌*◌}
+use Prim.Native.Nat.{◌-◌}
 use mathlib.Core.Path.{refl, ap, ◌∙◌}
-use mathlib.Core.List.{List}
 use native.Mathlib.Omega.{arith}
-use lib.ListN.{length, get_or}
+use lib.ListN.{get_or}
 use mir.Syntax.{w64}
 use mir.Facts.{to_z-of_z}
-use borrow.Author.Rules.{rules}
-use borrow.Author.Tests.{not-true, not-false}
-use Rattle.format_language.specs.Language.{Language}
-use Rattle.tree_reader.specs.Code.{node, Codes}
-use Rattle.tree_reader.specs.Typing.{Uses}
-use Rattle.score_tree.specs.Linear.{Loads}
-use Rattle.score_tree.specs.Inner.Terms.{all_bytes, NodeAsks}
 use Rattle.score_tree.proofs.Integers.{told}
 use Rattle.score_tree.proofs.Leaves.{asked_as}
 use Rattle.score_tree.proofs.Terms.{term_in, leaf_in, leaf_adds, name_in, node_left, node_asked, node_adds}
-use Rattle.score_tree.proofs.Walking.{Walking, adds_outside, node_in, figure_near, walk_begin, row_asked, row_in, operand, operand_asks, walk_outside, walk_next, walk_wide, walk_end}
-use Prim.Native.Nat.{ℕ, ◌<◌}
+use Rattle.score_tree.proofs.Walking.{adds_outside, node_in, figure_near, walk_begin, row_asked, row_in, operand, operand_asks, walk_outside, walk_next, walk_wide, walk_end}
+use Prim.Native.Nat.{ℕ}
 use Rattle.score_tree.proofs.form.+form_at_form_node.Goals as goal
 
 pub form_at-bounds-bytes-at : goal.form_at-bounds-bytes-at

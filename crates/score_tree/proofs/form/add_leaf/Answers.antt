@@ -4,7 +4,6 @@ use mir.Syntax.{w64}
 use mir.Facts.{to_z-of_z}
 use Rattle.score_tree.proofs.Integers.{told}
 use Rattle.score_tree.proofs.Leaves.{place_back, place_near, token_in, leaf_in, leaf_token, leaf_argument, leaf_past}
-use borrow.Author.Rules.{rules}
 use Rattle.score_tree.proofs.form.add_leaf.Goals as goal
 
 pub bounds-bytes-at : goal.bounds-bytes-at

@@ -1,13 +1,10 @@
-use Prim.Native.Nat.{◌-◌, ◌≤◌}
+use Prim.Native.Nat.{◌-◌}
 use mathlib.Core.Path.{sym, ◌∙◌}
 use native.Mathlib.Omega.{arith}
-use mir.Syntax.{w32, w64}
-use mir.Val.{to_z}
+use mir.Syntax.{w64}
 use mir.Facts.{to_z-of_z}
-use borrow.Author.Rules.{rules}
-use borrow.Author.Tests.{not-true, not-false}
 use Rattle.score_tree.proofs.Integers.{told}
-use Rattle.score_tree.proofs.Leaves.{place_back, figure_small, Adding, adding_begin, adding_back, adding_near, adding_outside, adding_next, adding_done}
+use Rattle.score_tree.proofs.Leaves.{place_back, figure_small, adding_begin, adding_back, adding_near, adding_outside, adding_next, adding_done}
 use Rattle.score_tree.proofs.form.add_row.Goals as goal
 
 pub loop-j-init : goal.loop-j-init

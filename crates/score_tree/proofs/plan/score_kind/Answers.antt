@@ -3,7 +3,6 @@ use native.Mathlib.Omega.{arith}
 use Rattle.tree_reader.proofs.Lookup.{zeros}
 use Rattle.score_tree.proofs.Plans.{ends_back}
 use Rattle.score_tree.proofs.Answering.{world_is, kind_deep, kind_broken, kind_more, kind_ends, kind_out_more, kind_out}
-use borrow.Author.Rules.{rules}
 use Rattle.score_tree.proofs.plan.score_kind.Goals as goal
 
 pub ends_at-requires : goal.ends_at-requires

@@ -1,7 +1,6 @@
 use mathlib.Core.Path.{refl}
 use native.Mathlib.Omega.{arith}
 use Rattle.score_tree.proofs.Answering.{zeros_small, ground_there, ground_refused, ground_scored}
-use borrow.Author.Rules.{rules}
 use Rattle.score_tree.proofs.plan.score_plan.Goals as goal
 
 pub prepare-outcome-requires : goal.prepare-outcome-requires

@@ -1,6 +1,4 @@
 use mathlib.Core.List.{[]}
-use borrow.Author.Rules.{rules}
-use borrow.Author.Tests.{not-true, not-false}
 use Rattle.check_operations.proofs.Opening.{accepts}
 use Rattle.score_tree.proofs.Answering.{language_refused, none_held, rising_entries, table_broken, root_out, ground_accepted, ground_held}
 use Rattle.score_tree.proofs.prepare.prepare.Goals as goal

@@ -1,6 +1,5 @@
 use native.Mathlib.Omega.{arith}
 use Rattle.score_tree.proofs.Putting.{load_cut, load_in, load_tag, load_size, load_long, load_result, load_name, load_is}
-use borrow.Author.Rules.{rules}
 use Rattle.score_tree.proofs.table.load_end.Goals as goal
 
 pub returns-then-end-eq0 : goal.returns-then-end-eq0

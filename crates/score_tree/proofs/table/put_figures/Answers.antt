@@ -1,12 +1,9 @@
-use Prim.Native.Nat.{◌+◌, ◌-◌, ◌*◌, ◌≤◌}
-use mathlib.Core.Path.{◌≡◌, refl, sym, ap, ◌∙◌}
+use Prim.Native.Nat.{◌-◌}
+use mathlib.Core.Path.{◌∙◌}
 use native.Mathlib.Omega.{arith}
-use lib.ListN.{length}
 use mir.Syntax.{w32}
-use Rattle.score_tree.specs.Inner.Kept.{Put}
 use Rattle.score_tree.proofs.Integers.{told}
 use Rattle.score_tree.proofs.Putting.{put_none, put_next, put_all}
-use borrow.Author.Rules.{rules}
 use Rattle.score_tree.proofs.table.put_figures.Goals as goal
 
 pub loop-i-init : goal.loop-i-init

@@ -1,12 +1,5 @@
-use Prim.Native.Nat.{◌+◌, ◌-◌, ◌*◌, ◌≤◌}
-use mathlib.Core.Path.{◌≡◌, refl, sym, ap, ◌∙◌}
-use native.Mathlib.Omega.{arith}
-use lib.ListN.{length}
-use mir.Syntax.{w32}
+use Prim.Native.Nat.{◌-◌, ◌≤◌}
 use Rattle.score_tree.specs.Inner.Kept.{Put}
-use Rattle.score_tree.proofs.Integers.{told}
-use Rattle.score_tree.proofs.Putting.{put_none, put_next, put_all}
-use borrow.Author.Rules.{rules}
 use Rattle.score_tree.proofs.table.put_figures.Given as goal
 
 abbrev pub invariant-loop-i : goal.invariant-loop-i

@@ -1,8 +1,7 @@
 use Prim.Native.Nat.{◌-◌}
 use mathlib.Core.Path.{sym, ◌∙◌}
 use native.Mathlib.Omega.{arith}
-use lib.ListN.{length}
-use Rattle.score_tree.proofs.Loading.{Loading, load_begin, entry_in, load_class, load_broken, load_room, load_next, broken_is, broken_kept, end_is, end_kept}
+use Rattle.score_tree.proofs.Loading.{load_begin, entry_in, load_class, load_broken, load_room, load_next, broken_is, broken_kept, end_is, end_kept}
 use Rattle.score_tree.proofs.table.read_table.Goals as goal
 
 pub loop-p-init : goal.loop-p-init

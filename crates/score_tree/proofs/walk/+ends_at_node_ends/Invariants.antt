@@ -1,15 +1,11 @@
 use Prim.Native.Nat.{◌+◌, ◌-◌, ◌*◌}
-use mathlib.Core.Path.{◌≡◌, refl, sym, ap, ◌∙◌}
 use mathlib.Core.List.{List}
-use native.Mathlib.Omega.{arith}
-use borrow.Author.Rules.{rules}
-use borrow.Author.Tests.{not-true, not-false}
 use Rattle.format_language.specs.Language.{Language}
 use Rattle.score_tree.specs.Linear.{Loads}
 use Rattle.score_tree.specs.Inner.Spreads.{read_spread}
 use Rattle.score_tree.specs.Inner.Walks.{RowAsks}
-use Rattle.score_tree.proofs.Plans.{Going, ends_back, node_in, number_is, going_begin, row_in, kind_in, going_deep, going_broken, going_outside, going_next, going_out, going_end, class_there, class_said, deep_said, end_said, unknown_said, node_asked, node_said}
-use Prim.Native.Nat.{ℕ, ◌<◌}
+use Rattle.score_tree.proofs.Plans.{Going}
+use Prim.Native.Nat.{ℕ}
 use Rattle.score_tree.proofs.walk.+ends_at_node_ends.Given as goal
 
 abbrev pub decreases-ends_at : goal.decreases-ends_at

@@ -1,9 +1,7 @@
 use mathlib.Core.Path.{sym, ap, ◌∙◌}
 use mir.Facts.{to_z-of_z}
-use borrow.Author.Tests.{not-true, not-false}
 use Rattle.score_tree.specs.Figures.{is_score}
 use Rattle.score_tree.proofs.Plans.{least_out, greatest_out, both_in}
-use borrow.Author.Rules.{rules}
 use Rattle.score_tree.proofs.walk.finished.Goals as goal
 
 pub returns-then-not-is_score : goal.returns-then-not-is_score

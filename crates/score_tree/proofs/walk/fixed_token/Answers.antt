@@ -1,9 +1,7 @@
 use mathlib.Core.Path.{sym, ◌∙◌}
 use mir.Syntax.{w64}
-use borrow.Author.Tests.{not-true, not-false}
 use Rattle.score_tree.proofs.Integers.{told}
 use Rattle.score_tree.proofs.Plans.{token_short, token_out, token_good, value_near}
-use borrow.Author.Rules.{rules}
 use Rattle.score_tree.proofs.walk.fixed_token.Goals as goal
 
 pub returns-then-bytes-at-lt-FIXED : goal.returns-then-bytes-at-lt-FIXED

@@ -1,5 +1,4 @@
 use Rattle.score_tree.proofs.Plans.{by_fixed, by_loose}
-use borrow.Author.Rules.{rules}
 use Rattle.score_tree.proofs.walk.token_ends.Goals as goal
 
 pub returns-then-width-eq-FIXED : goal.returns-then-width-eq-FIXED

@@ -1,14 +1,11 @@
-use Prim.Native.Nat.{ℕ, ◌-◌, ◌≤◌}
-use mathlib.Core.Path.{◌≡◌, refl, ◌∙◌}
-use native.Mathlib.Omega.{arith}
+use Prim.Native.Nat.{◌-◌, ◌≤◌}
+use mathlib.Core.Path.{◌≡◌}
 use lib.ListN.{length}
-use borrow.Author.Rules.{rules}
 use Rattle.format_translation.specs.Translation.{Translation}
 use Rattle.format_translation.specs.Running.{clauses_of}
 use Rattle.search_sources.specs.Inner.Goals.{Goal}
 use Rattle.search_levels.specs.Inner.Setting.{Truthful, Named, Seeks}
-use Rattle.search_levels.proofs.Needing.{seeks_still}
-use Rattle.search_first.proofs.Choosing.{NoneBelow, none_start, none_next, choose_here, choose_none}
+use Rattle.search_first.proofs.Choosing.{NoneBelow}
 use Rattle.search_first.proofs.choice.choose.Given as goal
 
 abbrev pub invariant-loop-name : goal.invariant-loop-name

@@ -1,17 +1,8 @@
-use Prim.Native.Nat.{ℕ, suc, ◌+◌, ◌-◌, ◌*◌, ◌≤◌, ◌<◌}
-use mathlib.Core.Path.{◌≡◌, refl, sym, ◌∙◌}
-use mathlib.Core.List.{List}
+use Prim.Native.Nat.{◌-◌}
+use mathlib.Core.Path.{refl, ◌∙◌}
 use native.Mathlib.Omega.{arith}
-use lib.ListN.{length}
-use borrow.Author.Rules.{rules}
-use borrow.Author.Tests.{not-true, not-false}
-use Rattle.tree_reader.specs.Code.{Codes}
-use Rattle.format_translation.specs.Translation.{Translation}
-use Rattle.format_translation.specs.Running.{clauses_of}
-use Rattle.search_sources.specs.Inner.Goals.{Goal, FirstAll}
-use Rattle.search_levels.specs.Inner.Setting.{Truthful, Seeks, SeeksAll}
 use Rattle.search_levels.proofs.Needing.{plain, class_positive, class_whole, seeks_still, name_known, asks_match, name_unmatched, name_seeks, count_inside, count_is, kind_inside, operand_seeks, operand_kind}
-use Rattle.search_first.proofs.Putting.{puts_past, puts_same, token_written, no_levels, one_level, node_put, first_of, unknown_none, go_on, Going, going_start, going_end, going_first, going_next}
+use Rattle.search_first.proofs.Putting.{puts_past, puts_same, token_written, no_levels, one_level, node_put, first_of, unknown_none, go_on, going_start, going_end, going_first, going_next}
 use Rattle.search_first.proofs.put.+put_first_put_node_put_operands.Goals as goal
 
 pub put_first-returns-then-limit-pos : goal.put_first-returns-then-limit-pos

@@ -1,6 +1,5 @@
 use native.Mathlib.Omega.{arith}
 use Rattle.search_first.proofs.Putting.{byte_past, byte_put, byte_off}
-use borrow.Author.Rules.{rules}
 use Rattle.search_first.proofs.put.put_byte.Goals as goal
 
 pub returns-then-limit-pos : goal.returns-then-limit-pos

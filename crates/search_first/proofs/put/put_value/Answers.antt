@@ -1,5 +1,4 @@
 use Rattle.search_first.proofs.Putting.{puts_then}
-use borrow.Author.Rules.{rules}
 use Rattle.search_first.proofs.put.put_value.Goals as goal
 
 pub returns : goal.returns

@@ -1,6 +1,5 @@
 use native.Mathlib.Omega.{arith}
 use Rattle.search_levels.proofs.Steps.{argument_there, argument_inside, argument_new, argument_starts, argument_same, argument_other}
-use borrow.Author.Rules.{rules}
 use Rattle.search_levels.proofs.clause.argument.Goals as goal
 
 pub end_of-end-requires : goal.end_of-end-requires

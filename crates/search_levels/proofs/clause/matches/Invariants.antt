@@ -1,13 +1,9 @@
-use borrow.Author.Rules.{rules}
-use Prim.Native.Nat.{ℕ, ◌+◌, ◌-◌, ◌≤◌, ◌<◌}
-use mathlib.Core.Path.{sym, ◌∙◌}
+use Prim.Native.Nat.{ℕ, ◌-◌, ◌≤◌}
 use mathlib.Core.List.{List}
-use native.Mathlib.Omega.{arith}
 use Rattle.format_translation.specs.Translation.{Translation}
 use Rattle.search_sources.specs.Inner.Goals.{Goal}
 use Rattle.search_levels.specs.Inner.Clauses.{MatchAsks}
-use Rattle.search_levels.proofs.Alone.{clause_starts, clause_inside, number_inside, alone_matches}
-use Rattle.search_levels.proofs.Whole.{Going, the_clause, match_free, match_start, going_inside, match_step, match_stops, match_next, match_done, step_width}
+use Rattle.search_levels.proofs.Whole.{Going}
 use Rattle.search_levels.proofs.clause.matches.Given as goal
 
 abbrev pub invariant-loop-c : goal.invariant-loop-c

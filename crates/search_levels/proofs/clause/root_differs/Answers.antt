@@ -1,7 +1,6 @@
 use mathlib.Core.Path.{sym, ◌∙◌}
 use mathlib.Core.Bool.{true, false}
 use native.Mathlib.Omega.{arith}
-use borrow.Author.Rules.{rules}
 use Rattle.format_fields.proofs.Truth.{false_true}
 use Rattle.search_levels.proofs.Alone.{root_inside, root_other}
 use Rattle.search_levels.proofs.clause.root_differs.Goals as goal

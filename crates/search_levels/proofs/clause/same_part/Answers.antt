@@ -1,9 +1,9 @@
 use borrow.Author.Rules.{rules}
-use Prim.Native.Nat.{◌-◌, ◌≤◌}
+use Prim.Native.Nat.{◌-◌}
 use mathlib.Core.Path.{sym}
 use Rattle.format_fields.proofs.Truth.{false_true}
 use native.Mathlib.Omega.{arith}
-use Rattle.search_levels.proofs.Lying.{SameTo, same_start, same_on, same_end, same_to_end, differ_at}
+use Rattle.search_levels.proofs.Lying.{same_start, same_on, same_end, same_to_end, differ_at}
 use Rattle.search_levels.proofs.clause.same_part.Goals as goal
 
 pub loop-i-init : goal.loop-i-init

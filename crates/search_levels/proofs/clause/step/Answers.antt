@@ -1,7 +1,5 @@
 use mathlib.Core.Path.{sym, ◌∙◌}
-use native.Mathlib.Omega.{arith}
-use Rattle.search_levels.proofs.Turns.{code_inside, next_inside, tree_inside, argument_next, number_some, place_inside, argument_asks, argument_step, first_differs, name_step, token_inside, second_differs, token_step}
-use borrow.Author.Rules.{rules}
+use Rattle.search_levels.proofs.Turns.{code_inside, next_inside, number_some, place_inside, argument_asks, argument_step, first_differs, name_step, token_inside, second_differs, token_step}
 use Rattle.search_levels.proofs.clause.step.Goals as goal
 
 pub body_at-sign-requires : goal.body_at-sign-requires

@@ -1,13 +1,8 @@
-use Prim.Native.Nat.{ℕ, ◌+◌, ◌-◌, ◌<◌, ◌≤◌}
-use mathlib.Core.Path.{◌≡◌, refl, ◌∙◌}
+use Prim.Native.Nat.{◌-◌}
+use mathlib.Core.Path.{refl, ◌∙◌}
 use native.Mathlib.Omega.{arith}
-use lib.ListN.{length}
 use borrow.Author.Rules.{rules}
-use Rattle.format_language.specs.Language.{Language}
-use Rattle.tree_reader.specs.Code.{Codes, levels_all}
-use Rattle.tree_reader.specs.Syntax.{write_all, tree as inTrees}
-use Rattle.tree_index.specs.Inner.Lying.{Row}
-use Rattle.search_levels.proofs.Filling.{Filling, filling_start, filling_end, filling_kind, filling_turn, filling_deeper, filling_leaf, filling_next}
+use Rattle.search_levels.proofs.Filling.{filling_start, filling_end, filling_kind, filling_turn, filling_deeper, filling_leaf, filling_next}
 use Rattle.search_levels.proofs.ends.+keep_ends.Goals as goal
 
 pub loop-q-init : goal.loop-q-init

@@ -1,13 +1,11 @@
-use Prim.Native.Nat.{ℕ, ◌+◌, ◌-◌, ◌<◌, ◌≤◌}
-use mathlib.Core.Path.{◌≡◌, refl, ◌∙◌}
-use native.Mathlib.Omega.{arith}
+use Prim.Native.Nat.{◌+◌, ◌-◌, ◌≤◌}
+use mathlib.Core.Path.{◌≡◌}
 use lib.ListN.{length}
-use borrow.Author.Rules.{rules}
 use Rattle.format_language.specs.Language.{Language}
 use Rattle.tree_reader.specs.Code.{Codes, levels_all}
 use Rattle.tree_reader.specs.Syntax.{write_all, tree as inTrees}
 use Rattle.tree_index.specs.Inner.Lying.{Row}
-use Rattle.search_levels.proofs.Filling.{Filling, filling_start, filling_end, filling_kind, filling_turn, filling_deeper, filling_leaf, filling_next}
+use Rattle.search_levels.proofs.Filling.{Filling}
 use Rattle.search_levels.proofs.ends.+keep_ends.Given as goal
 
 abbrev pub decreases-keep_ends : goal.decreases-keep_ends

@@ -1,4 +1,3 @@
-use borrow.Author.Rules.{rules}
 use Rattle.search_levels.proofs.Filling.{end_known}
 use Rattle.search_levels.proofs.ends.end_of.Goals as goal
 

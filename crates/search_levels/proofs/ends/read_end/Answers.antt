@@ -1,5 +1,4 @@
 use Rattle.search_levels.proofs.Ending.{there_ready, ends_there, not_deep, not_broken}
-use borrow.Author.Rules.{rules}
 use Rattle.search_levels.proofs.ends.read_end.Goals as goal
 
 pub read_tree-requires : goal.read_tree-requires

@@ -1,15 +1,6 @@
-use Prim.Native.Nat.{ℕ, suc, ◌+◌, ◌-◌, ◌*◌, ◌≤◌, ◌<◌}
-use mathlib.Core.Path.{◌≡◌, refl, sym, ◌∙◌}
-use mathlib.Core.List.{List}
+use Prim.Native.Nat.{◌-◌}
+use mathlib.Core.Path.{refl, ◌∙◌}
 use native.Mathlib.Omega.{arith}
-use lib.ListN.{length, drop, get_or}
-use borrow.Author.Rules.{rules}
-use borrow.Author.Tests.{not-true, not-false}
-use Rattle.format_translation.specs.Translation.{Translation}
-use Rattle.format_translation.specs.Running.{clauses_of}
-use Rattle.search_sources.specs.Inner.Goals.{Goal}
-use Rattle.search_sources.specs.Inner.Levels.{NeedsAll, NeedsNamed}
-use Rattle.search_levels.specs.Inner.Setting.{Truthful, Named, Seeks, SeeksAll}
 use Rattle.search_levels.proofs.Truths.{kept_long, ap_long, same_truth}
 use Rattle.search_levels.proofs.Needing.{recall_true, plain, class_positive, class_whole, class_needs, zero_levels, all_names, seeks_still, keeps_true, names_start, names_next, name_known, asks_match, name_unmatched, name_seeks, name_needs, count_inside, count_is, kind_inside, operand_seeks, operand_kind, operands_start, operands_next, operands_stop, operands_end}
 use Rattle.search_levels.proofs.levels.+name_need_need_operands_need.Goals as goal

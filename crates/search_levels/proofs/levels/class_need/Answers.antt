@@ -1,8 +1,6 @@
 use mathlib.Core.Path.{ap, ◌∙◌}
 use Rattle.format_language.specs.Language.{in_range}
-use Rattle.format_language.specs.Inner.Entries.{class_range}
 use Rattle.search_levels.proofs.Needing.{class_yes, class_no}
-use borrow.Author.Rules.{rules}
 use Rattle.search_levels.proofs.levels.class_need.Goals as goal
 
 pub returns-then-in_range : goal.returns-then-in_range

@@ -1,6 +1,5 @@
 use native.Mathlib.Omega.{arith}
 use Rattle.search_levels.proofs.Needing.{class_inside, value_low, value_there}
-use borrow.Author.Rules.{rules}
 use Rattle.search_levels.proofs.levels.token_value.Goals as goal
 
 pub overflow_add-class : goal.overflow_add-class

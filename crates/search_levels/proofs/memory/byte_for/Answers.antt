@@ -1,5 +1,4 @@
 use Rattle.search_levels.proofs.Kept.{byte_free, byte_past, byte_kept}
-use borrow.Author.Rules.{rules}
 use Rattle.search_levels.proofs.memory.byte_for.Goals as goal
 
 pub returns-then-n-at : goal.returns-then-n-at

@@ -1,5 +1,4 @@
 use Rattle.search_levels.proofs.Kept.{kept_free, kept_past, kept_there}
-use borrow.Author.Rules.{rules}
 use Rattle.search_levels.proofs.memory.keep.Goals as goal
 
 pub returns-then-n-at : goal.returns-then-n-at

@@ -1,6 +1,5 @@
 use Prim.Native.Nat.{◌+◌, ◌*◌, ◌/◌, ◌%◌}
 use mathlib.Core.Path.{refl}
-use borrow.Author.Rules.{rules}
 use Rattle.search_levels.proofs.Kept.{keeps_none, second_inside, third_inside, fourth_inside, keeps_there}
 use Rattle.search_levels.proofs.memory.keep_end.Goals as goal
 

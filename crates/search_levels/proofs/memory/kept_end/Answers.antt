@@ -1,5 +1,3 @@
-use mathlib.Core.Path.{◌∙◌}
-use borrow.Author.Rules.{rules}
 use Rattle.search_levels.specs.Inner.Memory.{nothing}
 use Rattle.search_levels.proofs.Kept.{recalls_end}
 use Rattle.search_levels.proofs.memory.kept_end.Goals as goal

@@ -1,5 +1,4 @@
 use Rattle.search_levels.proofs.Kept.{noted_within, noted_past}
-use borrow.Author.Rules.{rules}
 use Rattle.search_levels.proofs.memory.note.Goals as goal
 
 pub returns-then-r-m : goal.returns-then-r-m

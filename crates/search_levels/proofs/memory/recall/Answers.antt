@@ -1,5 +1,4 @@
 use Rattle.search_levels.proofs.Kept.{recalled_1, recalled_2, recalled_3, recalled_4, recalled_5}
-use borrow.Author.Rules.{rules}
 use Rattle.search_levels.proofs.memory.recall.Goals as goal
 
 pub returns-then-b-eq0 : goal.returns-then-b-eq0

@@ -1,14 +1,9 @@
 use Prim.Native.Nat.{ℕ, ◌-◌, ◌≤◌}
-use mathlib.Core.Path.{refl, sym, ◌∙◌}
 use mathlib.Core.List.{List}
-use native.Mathlib.Omega.{arith}
-use borrow.Author.Rules.{rules}
-use borrow.Author.Tests.{not-false}
 use Rattle.format_translation.specs.Translation.{Translation}
 use Rattle.format_translation.specs.Running.{clauses_of}
 use Rattle.search_sources.specs.Inner.Goals.{Goal}
 use Rattle.search_levels.specs.Inner.Setting.{Named, Without, Seeks}
-use Rattle.search_levels.proofs.Needing.{name_known, asks_match, without_start, without_next}
 use Rattle.search_levels.proofs.names.candidate.Given as goal
 
 abbrev pub invariant-loop-name : goal.invariant-loop-name

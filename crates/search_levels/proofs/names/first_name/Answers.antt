@@ -1,6 +1,5 @@
 use mathlib.Core.Path.{◌∙◌}
 use native.Mathlib.Omega.{arith}
-use borrow.Author.Rules.{rules}
 use Rattle.search_levels.proofs.Needing.{without, without_then, lowest_is}
 use Rattle.search_levels.proofs.names.first_name.Goals as goal
 

@@ -1,6 +1,4 @@
-use mathlib.Core.Path.{sym, ap, ◌∙◌}
 use native.Mathlib.Omega.{arith}
-use borrow.Author.Rules.{rules}
 use Rattle.search_levels.proofs.Naming.{place_inside, none_behind, next_inside, other_behind, next_behind}
 use Rattle.search_levels.proofs.names.name_behind.Goals as goal
 

@@ -1,8 +1,5 @@
 use Prim.Native.Nat.{◌-◌, ◌≤◌}
-use native.Mathlib.Omega.{arith}
-use borrow.Author.Rules.{rules}
 use Rattle.search_levels.specs.Inner.Setting.{Unnamed}
-use Rattle.search_levels.proofs.Naming.{unnamed_start, unnamed_next, named_there, named_none}
 use Rattle.search_levels.proofs.names.name_from.Given as goal
 
 abbrev pub invariant-loop-name : goal.invariant-loop-name

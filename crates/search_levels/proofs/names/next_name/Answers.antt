@@ -1,6 +1,4 @@
-use mathlib.Core.Path.{◌≡◌}
 use native.Mathlib.Omega.{arith}
-use borrow.Author.Rules.{rules}
 use Rattle.search_levels.proofs.Naming.{named_none}
 use Rattle.search_levels.proofs.Needing.{without, without_then}
 use Rattle.search_levels.proofs.names.next_name.Goals as goal

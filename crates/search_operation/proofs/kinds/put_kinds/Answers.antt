@@ -1,9 +1,7 @@
 use Prim.Native.Nat.{◌-◌}
-use mathlib.Core.Path.{◌≡◌, refl, sym, ◌∙◌}
+use mathlib.Core.Path.{refl, sym, ◌∙◌}
 use native.Mathlib.Omega.{arith}
-use lib.ListN.{length}
-use Rattle.search_operation.proofs.Listing.{Listed, listed_start, first_inside, second_inside, listed_next, listed_maps, listed_lowest}
-use borrow.Author.Rules.{rules}
+use Rattle.search_operation.proofs.Listing.{listed_start, first_inside, second_inside, listed_next, listed_maps, listed_lowest}
 use Rattle.search_operation.proofs.kinds.put_kinds.Goals as goal
 
 pub loop-kind-init : goal.loop-kind-init

@@ -1,9 +1,7 @@
 use Prim.Native.Nat.{◌-◌}
-use mathlib.Core.Path.{◌≡◌, refl, sym, ◌∙◌}
-use native.Mathlib.Omega.{arith}
+use mathlib.Core.Path.{◌≡◌}
 use lib.ListN.{length}
-use Rattle.search_operation.proofs.Listing.{Listed, listed_start, first_inside, second_inside, listed_next, listed_maps, listed_lowest}
-use borrow.Author.Rules.{rules}
+use Rattle.search_operation.proofs.Listing.{Listed}
 use Rattle.search_operation.proofs.kinds.put_kinds.Given as goal
 
 abbrev pub invariant-loop-kind : goal.invariant-loop-kind

@@ -1,8 +1,7 @@
-use mathlib.Core.Path.{refl, ◌∙◌}
+use mathlib.Core.Path.{◌∙◌}
 use mathlib.Core.Option.{some}
 use Rattle.search_levels.proofs.Needing.{seeks_still}
 use Rattle.search_operation.proofs.Found.{find_none}
-use borrow.Author.Rules.{rules}
 use Rattle.search_operation.proofs.search.find.Goals as goal
 
 pub need-needed-requires : goal.need-needed-requires

@@ -1,5 +1,4 @@
 use Rattle.tree_reader.proofs.Lookup.{zeros}
-use borrow.Author.Rules.{rules}
 use Rattle.search_operation.proofs.search.find_here.Goals as goal
 
 pub find_in-requires : goal.find_in-requires

@@ -2,7 +2,6 @@ use mathlib.Core.Path.{refl, ◌∙◌}
 use Rattle.tree_reader.proofs.Lookup.{zeros}
 use Rattle.search_levels.proofs.Truths.{ends_true}
 use Rattle.search_operation.proofs.Wrapping.{opened_rooted, opened_there, opened_seeks}
-use borrow.Author.Rules.{rules}
 use Rattle.search_operation.proofs.search.find_in.Goals as goal
 
 pub operands_at-operands-requires : goal.operands_at-operands-requires

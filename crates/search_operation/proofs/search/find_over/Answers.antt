@@ -2,7 +2,6 @@ use Prim.Native.Nat.{ℕ}
 use mathlib.Core.Path.{ap, ◌∙◌}
 use lib.ListN.{length, replicate, length-replicate}
 use Rattle.search_operation.proofs.Wrapping.{blank_all}
-use borrow.Author.Rules.{rules}
 use Rattle.search_operation.proofs.search.find_over.Goals as goal
 
 pub find_here-requires : goal.find_here-requires

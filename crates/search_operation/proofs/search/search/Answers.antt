@@ -1,4 +1,3 @@
-use borrow.Author.Tests.{not-true, not-false}
 use mathlib.Core.Path.{sym, ◌∙◌}
 use Rattle.tree_reader.proofs.Lookup.{zeros}
 use Rattle.format_translation.proofs.Accepted.{accepts}

@@ -1,4 +1,3 @@
-use borrow.Author.Tests.{not-true, not-false}
 use mathlib.Core.Path.{sym, ◌∙◌}
 use Rattle.search_operation.proofs.Wrapping.{root_past, from_unknown, from_known}
 use borrow.Author.Rules.{rules}

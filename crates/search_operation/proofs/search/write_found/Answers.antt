@@ -1,9 +1,8 @@
-use mathlib.Core.Path.{refl, ◌∙◌}
+use mathlib.Core.Path.{◌∙◌}
 use mathlib.Core.Option.{some}
 use native.Mathlib.Omega.{arith}
 use Rattle.search_levels.proofs.Needing.{seeks_still}
 use Rattle.search_operation.proofs.Found.{find_long, find_there}
-use borrow.Author.Rules.{rules}
 use Rattle.search_operation.proofs.search.write_found.Goals as goal
 
 pub put_first-n-requires : goal.put_first-n-requires

@@ -1,12 +1,8 @@
-use Prim.Native.Nat.{ℕ, ◌-◌, ◌<◌, ◌≤◌}
+use Prim.Native.Nat.{◌-◌}
 use mathlib.Core.Path.{refl}
-use mathlib.Core.List.{List}
 use native.Mathlib.Omega.{arith}
 use borrow.Author.Rules.{rules}
-use Rattle.format_language.specs.Language.{Language}
-use Rattle.tree_reader.specs.Code.{Codes}
-use Rattle.tree_block.specs.Inner.Descent.{AlongRow}
-use Rattle.tree_block.proofs.Steps.{Walking, walk_done, walk_here, walk_inside, walk_entry, size_read, walk_splits, walk_on}
+use Rattle.tree_block.proofs.Steps.{walk_done, walk_here, walk_inside, walk_entry, size_read, walk_splits, walk_on}
 use Rattle.tree_block.proofs.descent.argument_among.Goals as goal
 
 pub loop-q-init : goal.loop-q-init

@@ -1,12 +1,9 @@
 use Prim.Native.Nat.{ℕ, ◌-◌, ◌<◌, ◌≤◌}
-use mathlib.Core.Path.{refl}
 use mathlib.Core.List.{List}
-use native.Mathlib.Omega.{arith}
-use borrow.Author.Rules.{rules}
 use Rattle.format_language.specs.Language.{Language}
 use Rattle.tree_reader.specs.Code.{Codes}
 use Rattle.tree_block.specs.Inner.Descent.{AlongRow}
-use Rattle.tree_block.proofs.Steps.{Walking, walk_done, walk_here, walk_inside, walk_entry, size_read, walk_splits, walk_on}
+use Rattle.tree_block.proofs.Steps.{Walking}
 use Rattle.tree_block.proofs.descent.argument_among.Given as goal
 
 abbrev pub invariant-loop-q : goal.invariant-loop-q

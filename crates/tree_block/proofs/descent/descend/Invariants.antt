@@ -1,14 +1,10 @@
 use Prim.Native.Nat.{ℕ, ◌-◌}
-use mathlib.Core.Path.{refl}
 use mathlib.Core.Bool.{Bool}
 use lib.ListN.{length}
-use borrow.Author.Rules.{rules}
-use borrow.Author.Tests.{not-true, not-false}
 use Rattle.format_language.specs.Language.{Language}
 use Rattle.tree_reader.specs.Code.{Code}
 use Rattle.tree_block.specs.Inner.Descent.{SetOf, Along}
-use Rattle.tree_block.proofs.Paths.{Going, along_kind, path_hidden, path_done, path_stops, path_next}
-use Rattle.format_card.specs.Inner.Sets.{in_set}
+use Rattle.tree_block.proofs.Paths.{Going}
 use Rattle.tree_block.proofs.descent.descend.Given as goal
 
 abbrev pub invariant-loop-i : goal.invariant-loop-i

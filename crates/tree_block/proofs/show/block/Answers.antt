@@ -1,6 +1,5 @@
 use mathlib.Core.Path.{refl}
 use Rattle.tree_block.proofs.Answers.{hands}
-use borrow.Author.Rules.{rules}
 use Rattle.tree_block.proofs.show.block.Goals as goal
 
 pub returns : goal.returns

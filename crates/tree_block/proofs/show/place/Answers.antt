@@ -2,7 +2,6 @@ use mathlib.Core.Path.{refl}
 use native.Mathlib.Omega.{arith}
 use Rattle.tree_reader.proofs.Lookup.{zeros}
 use Rattle.tree_block.proofs.Answers.{place-refused, owned, root_small, tree-along, place_found}
-use borrow.Author.Rules.{rules}
 use Rattle.tree_block.proofs.show.place.Goals as goal
 
 pub check_own-answer-requires : goal.check_own-answer-requires

@@ -2,7 +2,6 @@ use native.Mathlib.Omega.{arith}
 use Rattle.tree_block.specs.Blocks.{every_kind}
 use Rattle.tree_block.proofs.Paths.{every_kind_lem}
 use Rattle.tree_block.proofs.Answers.{placed-nowhere, placed-hidden, placed-entry, placed-inside, placed-block}
-use borrow.Author.Rules.{rules}
 use Rattle.tree_block.proofs.show.place_in.Goals as goal
 
 pub overflow_add-entry : goal.overflow_add-entry

@@ -3,7 +3,6 @@ use native.Mathlib.Omega.{arith}
 use Rattle.tree_reader.proofs.Lookup.{zeros}
 use Rattle.format_card.specs.Card.{sees}
 use Rattle.tree_edit.proofs.Carded.{set_of_card, edit_refused, legal, root_small, owns, edit_given}
-use borrow.Author.Rules.{rules}
 use Rattle.tree_edit.proofs.edit.edit.Goals as goal
 
 pub check_own-answer-requires : goal.check_own-answer-requires

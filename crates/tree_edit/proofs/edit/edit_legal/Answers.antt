@@ -2,7 +2,6 @@ use mathlib.Core.Path.{refl}
 use native.Mathlib.Omega.{arith}
 use Rattle.format_card.specs.Inner.Sets.{in_set}
 use Rattle.tree_edit.proofs.Planning.{path_nowhere, path_unseen, path_entry, path_reaches, path_given}
-use borrow.Author.Rules.{rules}
 use Rattle.tree_edit.proofs.edit.edit_legal.Goals as goal
 
 pub descend-requires : goal.descend-requires

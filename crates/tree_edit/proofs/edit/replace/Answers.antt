@@ -1,7 +1,6 @@
 use mathlib.Core.Path.{refl}
 use native.Mathlib.Omega.{arith}
 use Rattle.tree_edit.proofs.Planning.{block_inside, plan_too_long, plan_given}
-use borrow.Author.Rules.{rules}
 use Rattle.tree_edit.proofs.edit.replace.Goals as goal
 
 pub overflow_sub-size : goal.overflow_sub-size

@@ -1,6 +1,5 @@
 use native.Mathlib.Omega.{arith}
 use Rattle.tree_edit.proofs.Planning.{block_ready, done_is, block_left, block_replaces, block_given, block_deep, block_broken}
-use borrow.Author.Rules.{rules}
 use Rattle.tree_edit.proofs.edit.replace_block.Goals as goal
 
 pub read_tree-requires : goal.read_tree-requires

@@ -1,7 +1,6 @@
 use mathlib.Core.Path.{refl}
 use native.Mathlib.Omega.{arith}
 use Rattle.tree_edit.proofs.Planning.{parts, block_inside, plan_short, index_few, first_splits, first_inside, last_splits, last_inside, new_fits, rewrites, plan_room, length_small, length_is, plan_too_short, index_too_short, both_put}
-use borrow.Author.Rules.{rules}
 use Rattle.tree_edit.proofs.edit.rewrite.Goals as goal
 
 pub overflow_add-stop : goal.overflow_add-stop

@@ -2,7 +2,6 @@ use Prim.Native.Nat.{◌+◌, ◌≤◌}
 use native.Mathlib.Omega.{arith}
 use Rattle.format_fields.specs.Fields.{pair_at}
 use Rattle.tree_edit.proofs.Entries.{put_behind, put_around, put_before}
-use borrow.Author.Rules.{rules}
 use Rattle.tree_edit.proofs.moves.move_entry.Goals as goal
 
 pub overflow_add-from : goal.overflow_add-from

@@ -1,7 +1,6 @@
 use mathlib.Core.Path.{refl}
 use native.Mathlib.Omega.{arith}
 use Rattle.tree_edit.proofs.Entries.{front_part, back_part, parts_room, index_put}
-use borrow.Author.Rules.{rules}
 use Rattle.tree_edit.proofs.moves.put_index.Goals as goal
 
 pub move_entries-requires : goal.move_entries-requires

@@ -1,6 +1,5 @@
 use native.Mathlib.Omega.{arith}
 use Rattle.tree_edit.proofs.Entries.{plan_put}
-use borrow.Author.Rules.{rules}
 use Rattle.tree_edit.proofs.moves.put_plan.Goals as goal
 
 pub put_both-requires : goal.put_both-requires

@@ -1,10 +1,8 @@
 use mathlib.Core.Path.{sym, ◌∙◌}
 use native.Mathlib.Omega.{arith}
-use borrow.Author.Tests.{not-true, not-false}
 use Rattle.format_translation.proofs.Accepted.{refused_not}
 use Rattle.tree_index.proofs.Checking.{checked_tree, root_small, tree_there}
 use Rattle.tree_index.proofs.Owning.{own_refused, own_long, own_other, own_accepted}
-use borrow.Author.Rules.{rules}
 use Rattle.tree_index.proofs.build.check_own.Goals as goal
 
 pub returns-in-Refused : goal.returns-in-Refused

@@ -3,7 +3,6 @@ use native.Mathlib.Omega.{arith}
 use Rattle.tree_reader.proofs.Lookup.{zeros}
 use Rattle.tree_index.proofs.Checking.{checked_tree, root_small, tree_there}
 use Rattle.tree_index.proofs.Building.{index_refused, index_long, index_given}
-use borrow.Author.Rules.{rules}
 use Rattle.tree_index.proofs.build.index.Goals as goal
 
 pub check_indexed-answer-requires : goal.check_indexed-answer-requires

@@ -1,5 +1,4 @@
 use Rattle.tree_index.proofs.Building.{legal_room, legal_short, legal_put}
-use borrow.Author.Rules.{rules}
 use Rattle.tree_index.proofs.build.index_legal.Goals as goal
 
 pub returns-then-tree-output : goal.returns-then-tree-output

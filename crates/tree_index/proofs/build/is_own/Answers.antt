@@ -1,7 +1,5 @@
 use native.Mathlib.Omega.{arith}
-use borrow.Author.Tests.{not-true, not-false}
 use Rattle.tree_index.proofs.Building.{own_start, own_compared}
-use borrow.Author.Rules.{rules}
 use Rattle.tree_index.proofs.build.is_own.Goals as goal
 
 pub returns-then-not-starts_at : goal.returns-then-not-starts_at

@@ -1,6 +1,5 @@
 use native.Mathlib.Omega.{arith}
 use Rattle.tree_index.proofs.Building.{tree_inside, index_written}
-use borrow.Author.Rules.{rules}
 use Rattle.tree_index.proofs.build.write_index.Goals as goal
 
 pub write_row-ends-requires : goal.write_row-ends-requires

@@ -1,13 +1,9 @@
-use Prim.Native.Nat.{ℕ, ◌-◌, ◌<◌, ◌≤◌}
-use mathlib.Core.Path.{refl}
-use native.Mathlib.Omega.{arith}
+use Prim.Native.Nat.{◌-◌, ◌≤◌}
 use lib.ListN.{length}
-use borrow.Author.Rules.{rules}
-use borrow.Author.Tests.{not-true, not-false}
 use Rattle.format_language.specs.Language.{Language}
 use Rattle.tree_reader.specs.Code.{Codes}
 use Rattle.tree_index.specs.Inner.Lying.{Row}
-use Rattle.tree_index.proofs.Comparing.{Comparing, compare_begin, compare_inside, compare_turn, compare_kind, opens_below, compare_short, compare_done, start_other, opens_ahead, leaf_other, leaf_next, call_other, call_ahead, call_next, last_other, last_next}
+use Rattle.tree_index.proofs.Comparing.{Comparing}
 use Rattle.tree_index.proofs.compare.+compare_row.Given as goal
 
 abbrev pub decreases-compare_row : goal.decreases-compare_row

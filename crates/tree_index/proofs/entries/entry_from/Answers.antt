@@ -1,12 +1,7 @@
-use Prim.Native.Nat.{◌+◌, ◌-◌, ◌≤◌}
+use Prim.Native.Nat.{◌-◌}
 use mathlib.Core.Path.{refl}
-use mathlib.Core.List.{List}
 use native.Mathlib.Omega.{arith}
-use lib.ListN.{length}
-use borrow.Author.Rules.{rules}
-use Rattle.tree_index.specs.Spans.{Span}
-use Rattle.tree_index.specs.Inner.Starts.{Splits}
-use Rattle.tree_index.proofs.Starts.{Passing, pass_stop, pass_on, pass_end}
+use Rattle.tree_index.proofs.Starts.{pass_stop, pass_on, pass_end}
 use Rattle.tree_index.proofs.entries.entry_from.Goals as goal
 
 pub loop-p-init : goal.loop-p-init

@@ -1,12 +1,9 @@
 use Prim.Native.Nat.{◌+◌, ◌-◌, ◌≤◌}
-use mathlib.Core.Path.{refl}
 use mathlib.Core.List.{List}
-use native.Mathlib.Omega.{arith}
 use lib.ListN.{length}
-use borrow.Author.Rules.{rules}
 use Rattle.tree_index.specs.Spans.{Span}
 use Rattle.tree_index.specs.Inner.Starts.{Splits}
-use Rattle.tree_index.proofs.Starts.{Passing, pass_stop, pass_on, pass_end}
+use Rattle.tree_index.proofs.Starts.{Passing}
 use Rattle.tree_index.proofs.entries.entry_from.Given as goal
 
 abbrev pub invariant-loop-p : goal.invariant-loop-p

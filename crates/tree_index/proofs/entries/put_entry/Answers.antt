@@ -1,6 +1,5 @@
 use native.Mathlib.Omega.{arith}
 use Rattle.tree_index.proofs.Pairs.{entry_put}
-use borrow.Author.Rules.{rules}
 use Rattle.tree_index.proofs.entries.put_entry.Goals as goal
 
 pub returns-then-out-n : goal.returns-then-out-n

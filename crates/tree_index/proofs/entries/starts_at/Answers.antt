@@ -2,7 +2,6 @@ use mathlib.Core.Path.{refl, sym, ◌∙◌}
 use borrow.Author.Tests.{eqb-true, eqb-false}
 use Rattle.format_fields.proofs.Truth.{not_both}
 use Rattle.tree_index.proofs.Pairs.{too_short, other_start}
-use borrow.Author.Rules.{rules}
 use Rattle.tree_index.proofs.entries.starts_at.Goals as goal
 
 pub returns-then-index-n : goal.returns-then-index-n

@@ -1,7 +1,6 @@
 use native.Mathlib.Omega.{arith}
 use Rattle.tree_index.proofs.Rows.{there_ready}
 use Rattle.tree_index.proofs.Shapes.{at_token, name_there, named, at_node}
-use borrow.Author.Rules.{rules}
 use Rattle.tree_index.proofs.operands.operands_at.Goals as goal
 
 pub returns-then-class-ne0 : goal.returns-then-class-ne0

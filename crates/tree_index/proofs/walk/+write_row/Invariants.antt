@@ -1,12 +1,10 @@
-use Prim.Native.Nat.{ℕ, ◌-◌, ◌<◌, ◌≤◌}
-use mathlib.Core.Path.{◌≡◌, refl, ◌∙◌}
-use native.Mathlib.Omega.{arith}
+use Prim.Native.Nat.{◌-◌, ◌≤◌}
+use mathlib.Core.Path.{◌≡◌}
 use lib.ListN.{length}
-use borrow.Author.Rules.{rules}
 use Rattle.format_language.specs.Language.{Language}
 use Rattle.tree_reader.specs.Code.{Codes}
 use Rattle.tree_index.specs.Inner.Lying.{Row}
-use Rattle.tree_index.proofs.Walking.{Walking, walk_begin, walk_done, walk_turn, walk_kind, walk_below, walk_ahead, walk_few, walk_inside, walk_next, leaf_next}
+use Rattle.tree_index.proofs.Walking.{Walking}
 use Rattle.tree_index.proofs.walk.+write_row.Given as goal
 
 abbrev pub decreases-write_row : goal.decreases-write_row

@@ -1,5 +1,4 @@
 use Rattle.tree_locate.proofs.Answers.{fault_past, fault-stopped}
-use borrow.Author.Rules.{rules}
 use Rattle.tree_locate.proofs.locate.fault_at.Goals as goal
 
 pub returns-in-Past : goal.returns-in-Past

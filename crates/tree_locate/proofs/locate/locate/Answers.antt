@@ -3,7 +3,6 @@ use native.Mathlib.Omega.{arith}
 use Rattle.tree_reader.proofs.Lookup.{zeros}
 use Rattle.check_operations.proofs.Opening.{opened_language, opened_ready}
 use Rattle.tree_locate.proofs.Answers.{located-refused, located-read}
-use borrow.Author.Rules.{rules}
 use Rattle.tree_locate.proofs.locate.locate.Goals as goal
 
 pub open_language-requires : goal.open_language-requires

@@ -1,6 +1,5 @@
 use mathlib.Core.Path.{refl}
 use Rattle.tree_locate.proofs.Answers.{answer-leftover, answer-whole, answer-deep, answer-broken}
-use borrow.Author.Rules.{rules}
 use Rattle.tree_locate.proofs.locate.locate_in.Goals as goal
 
 pub returns-then-e-tree : goal.returns-then-e-tree

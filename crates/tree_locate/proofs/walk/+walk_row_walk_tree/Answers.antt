@@ -1,15 +1,8 @@
-use Prim.Native.Nat.{ℕ, ◌+◌, ◌-◌, ◌*◌, ◌<◌, ◌≤◌}
-use mathlib.Core.Path.{◌≡◌, refl, ap, ◌∙◌}
+use Prim.Native.Nat.{◌-◌}
+use mathlib.Core.Path.{refl, ap, ◌∙◌}
 use native.Mathlib.Omega.{arith}
-use lib.ListN.{length, drop}
-use lib.Seq.{slice}
-use borrow.Author.Rules.{rules}
-use Rattle.format_language.specs.Language.{Language}
-use Rattle.tree_reader.specs.Inner.Index.{Indexed}
-use Rattle.tree_reader.specs.Inner.Positions.{KindsIn}
 use Rattle.tree_reader.proofs.Laws.{class_in}
 use Rattle.check_operations.proofs.Reading.{at_name, at_place}
-use Rattle.tree_locate.specs.Faults.{stop_all, stop}
 use Rattle.tree_locate.specs.Inner.Places.{place_of}
 use Rattle.tree_locate.proofs.Walks.{tree_token, tree_deep, tree_unknown, tree_row, tree_kinds, row_done, row_next, row_stopped, row_inside, past_in}
 use Rattle.tree_locate.proofs.walk.+walk_row_walk_tree.Goals as goal

@@ -1,5 +1,4 @@
 use Rattle.tree_locate.proofs.Walks.{token_short, token_past, token_stopped, deep_end, broken_end}
-use borrow.Author.Rules.{rules}
 use Rattle.tree_locate.proofs.walk.walk_token.Goals as goal
 
 pub returns-then-tree-at-lt-TOKEN : goal.returns-then-tree-at-lt-TOKEN

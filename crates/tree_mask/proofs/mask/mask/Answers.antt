@@ -3,7 +3,6 @@ use native.Mathlib.Omega.{arith}
 use Rattle.tree_reader.proofs.Lookup.{zeros}
 use Rattle.check_operations.proofs.Opening.{opened_ready}
 use Rattle.tree_mask.proofs.Answers.{legal, mask-refused, mask_done}
-use borrow.Author.Rules.{rules}
 use Rattle.tree_mask.proofs.mask.mask.Goals as goal
 
 pub open_language-on_language-requires : goal.open_language-on_language-requires

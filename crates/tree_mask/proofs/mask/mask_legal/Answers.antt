@@ -1,5 +1,4 @@
 use native.Mathlib.Omega.{arith}
-use borrow.Author.Rules.{rules}
 use Rattle.tree_mask.proofs.Answers.{legal_room, legal-long, legal-done}
 use Rattle.tree_mask.proofs.mask.mask_legal.Goals as goal
 

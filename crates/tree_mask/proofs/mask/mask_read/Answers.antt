@@ -1,4 +1,3 @@
-use borrow.Author.Rules.{rules}
 use Rattle.tree_mask.proofs.Answers.{read_deep, read-broken, read_left, read_whole}
 use Rattle.tree_mask.proofs.mask.mask_read.Goals as goal
 

@@ -1,6 +1,5 @@
 use Rattle.tree_mask.specs.Inner.Rows.{end_row}
 use mathlib.Core.Path.{refl}
-use borrow.Author.Rules.{rules}
 use Rattle.tree_mask.proofs.row.end_row.Goals as goal
 
 pub returns : goal.returns

@@ -1,6 +1,5 @@
 use mathlib.Core.Path.{refl}
 use Rattle.tree_mask.specs.Inner.Rows.{inner_row}
-use borrow.Author.Rules.{rules}
 use Rattle.tree_mask.proofs.row.inner_row.Goals as goal
 
 pub returns : goal.returns

@@ -1,12 +1,7 @@
-use Prim.Native.Nat.{ℕ, ◌<◌, ◌≤◌}
-use mathlib.Core.Path.{◌≡◌, refl, sym, ◌∙◌}
+use mathlib.Core.Path.{refl, sym, ◌∙◌}
 use native.Mathlib.Omega.{arith}
-use lib.ListN.{length}
 use borrow.Author.Rules.{rules}
-use borrow.Author.Tests.{not-true, not-false}
 use Rattle.check_operations.proofs.Reading.{at_name, at_place}
-use Rattle.tree_mask.specs.Inner.Rows.{Walkable, to_go}
-use Rattle.tree_mask.specs.Inner.Masking.{Goes}
 use Rattle.tree_mask.proofs.Masks.{at_token, not_cut, not_deep}
 use Rattle.tree_mask.proofs.Rows.{kind_in, row_short, inner_walk, inner_levels}
 use Rattle.tree_mask.proofs.Walks.{row_put, step_again, step_done, advance, ended, ended_stop, entered, inner_put}

@@ -1,5 +1,4 @@
 use Rattle.tree_mask.proofs.Masks.{ends_there, ends_deep, ends_broken}
-use borrow.Author.Rules.{rules}
 use Rattle.tree_mask.proofs.walk.end_at.Goals as goal
 
 pub returns-in-End : goal.returns-in-End

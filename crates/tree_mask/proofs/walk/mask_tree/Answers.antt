@@ -1,12 +1,10 @@
 use mathlib.Core.Path.{sym, ap, ◌∙◌}
 use native.Mathlib.Omega.{arith}
-use borrow.Author.Tests.{not-true, not-false}
 use Rattle.check_operations.proofs.Reading.{at_name, at_place}
 use Rattle.tree_mask.specs.Inner.Rows.{whole_row, inner_row}
 use Rattle.tree_mask.proofs.Masks.{at_token, not_cut, whole_hidden, whole_not, whole_is}
 use Rattle.tree_mask.proofs.Rows.{inner_walk}
 use Rattle.tree_mask.proofs.Walks.{inner_put}
-use borrow.Author.Rules.{rules}
 use Rattle.tree_mask.proofs.walk.mask_tree.Goals as goal
 
 pub returns-then-not-in_set : goal.returns-then-not-in_set

@@ -1,5 +1,4 @@
 use Rattle.tree_mask.proofs.Masks.{put_short, put_byte}
-use borrow.Author.Rules.{rules}
 use Rattle.tree_mask.proofs.walk.put.Goals as goal
 
 pub returns-then-out-n : goal.returns-then-out-n

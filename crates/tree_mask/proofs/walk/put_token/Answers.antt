@@ -1,7 +1,5 @@
 use native.Mathlib.Omega.{arith}
-use borrow.Author.Tests.{not-true, not-false}
 use Rattle.tree_mask.proofs.Masks.{token_hidden, token_short, token_put}
-use borrow.Author.Rules.{rules}
 use Rattle.tree_mask.proofs.walk.put_token.Goals as goal
 
 pub returns-then-not-seen : goal.returns-then-not-seen

@@ -3,7 +3,6 @@ use native.Mathlib.Omega.{arith}
 use Rattle.tree_reader.proofs.Lookup.{zeros}
 use Rattle.tree_block.proofs.Answers.{owned, root_small, tree-along}
 use Rattle.tree_node.proofs.Answers.{node-refused, node-found}
-use borrow.Author.Rules.{rules}
 use Rattle.tree_node.proofs.node.node.Goals as goal
 
 pub check_own-answer-requires : goal.check_own-answer-requires

@@ -1,7 +1,6 @@
 use mathlib.Core.Path.{refl}
 use native.Mathlib.Omega.{arith}
 use Rattle.tree_node.proofs.Shapes.{token_shown, name_inside, few, production_shown}
-use borrow.Author.Rules.{rules}
 use Rattle.tree_node.proofs.node.node_at.Goals as goal
 
 pub returns-then-place_at-ne0 : goal.returns-then-place_at-ne0

@@ -1,7 +1,6 @@
 use Rattle.tree_block.specs.Blocks.{every_kind}
 use Rattle.tree_block.proofs.Paths.{every_kind_lem}
 use Rattle.tree_node.proofs.Answers.{node-nowhere, node-hidden, node-there}
-use borrow.Author.Rules.{rules}
 use Rattle.tree_node.proofs.node.node_in.Goals as goal
 
 pub node_at-requires : goal.node_at-requires

@@ -1,7 +1,6 @@
 use mathlib.Core.Path.{refl, sym, ◌∙◌}
 use mathlib.Core.Logic.{inl}
 use Rattle.tree_reader.proofs.Keeping.{kept_there}
-use borrow.Author.Rules.{rules}
 use Rattle.tree_reader.proofs.ends.end_at.Goals as goal
 
 pub returns-then-to_usize-at : goal.returns-then-to_usize-at

@@ -1,7 +1,6 @@
 use mathlib.Core.Logic.{inl}
 use native.Mathlib.Omega.{arith}
 use Rattle.tree_reader.proofs.Keeping.{kept_both}
-use borrow.Author.Rules.{rules}
 use Rattle.tree_reader.proofs.ends.keep_end.Goals as goal
 
 pub returns-then-end-at : goal.returns-then-end-at

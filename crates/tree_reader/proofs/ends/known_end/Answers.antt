@@ -1,6 +1,5 @@
 use mathlib.Core.Path.{refl}
 use mathlib.Core.Logic.{inl}
-use borrow.Author.Rules.{rules}
 use Rattle.tree_reader.proofs.ends.known_end.Goals as goal
 
 pub returns-then-ends-lt-SHORT_TABLE : goal.returns-then-ends-lt-SHORT_TABLE

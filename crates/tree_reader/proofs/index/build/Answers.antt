@@ -1,6 +1,5 @@
 use native.Mathlib.Omega.{arith}
 use Rattle.tree_reader.proofs.Indexed.{build_is}
-use borrow.Author.Rules.{rules}
 use Rattle.tree_reader.proofs.index.build.Goals as goal
 
 pub returns : goal.returns

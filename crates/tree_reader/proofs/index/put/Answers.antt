@@ -1,5 +1,4 @@
 use Rattle.tree_reader.proofs.Lookup.{put_out_lem, put_not, put_in}
-use borrow.Author.Rules.{rules}
 use Rattle.tree_reader.proofs.index.put.Goals as goal
 
 pub returns-then-index-key : goal.returns-then-index-key

@@ -1,9 +1,6 @@
 use borrow.Author.Rules.{rules}
 use Prim.Native.Nat.{◌-◌}
-use mathlib.Core.Path.{◌≡◌, refl}
-use lib.ListN.{length}
-use Rattle.format_fields.specs.Inner.Places.{places_from, places}
-use Rattle.tree_reader.specs.Inner.Index.{put_all}
+use mathlib.Core.Path.{refl}
 use Rattle.tree_reader.proofs.Lookup.{puts_done, puts_next}
 use Rattle.tree_reader.proofs.index.put_all.Goals as goal
 

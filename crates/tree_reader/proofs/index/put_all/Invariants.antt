@@ -1,10 +1,8 @@
-use borrow.Author.Rules.{rules}
 use Prim.Native.Nat.{◌-◌}
-use mathlib.Core.Path.{◌≡◌, refl}
+use mathlib.Core.Path.{◌≡◌}
 use lib.ListN.{length}
 use Rattle.format_fields.specs.Inner.Places.{places_from, places}
 use Rattle.tree_reader.specs.Inner.Index.{put_all}
-use Rattle.tree_reader.proofs.Lookup.{puts_done, puts_next}
 use Rattle.tree_reader.proofs.index.put_all.Given as goal
 
 abbrev pub invariant-loop-p : goal.invariant-loop-p

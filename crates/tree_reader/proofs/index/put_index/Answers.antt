@@ -1,6 +1,5 @@
 use mathlib.Core.Path.{refl}
 use Rattle.tree_reader.proofs.Built.{put_built, put_around, sub_self}
-use borrow.Author.Rules.{rules}
 use Rattle.tree_reader.proofs.index.put_index.Goals as goal
 
 pub returns : goal.returns

@@ -1,12 +1,6 @@
-use borrow.Author.Rules.{rules}
 use Prim.Native.Nat.{◌-◌}
 use mathlib.Core.Bool.{true}
-use mathlib.Core.Path.{◌≡◌, refl, ◌∙◌}
-use lib.ListN.{length}
-use Rattle.format_language.specs.Inner.Entries.{entry_whole}
-use Rattle.format_fields.specs.Inner.Places.{places_from, places}
-use Rattle.format_fields.specs.Lists.{all, any}
-use Rattle.tree_reader.specs.Inner.Positions.{mentions_at}
+use mathlib.Core.Path.{refl, ◌∙◌}
 use Rattle.tree_reader.proofs.Members.{in_done, in_fits, in_stop, in_next, in_is, entries_whole}
 use Rattle.tree_reader.proofs.kinds.is_in.Goals as goal
 

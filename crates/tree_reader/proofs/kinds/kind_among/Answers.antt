@@ -1,9 +1,5 @@
-use borrow.Author.Rules.{rules}
 use Prim.Native.Nat.{◌-◌}
-use mathlib.Core.Path.{◌≡◌, refl}
-use lib.Seq.{slice}
-use lib.Dec.{eqb}
-use Rattle.format_fields.specs.Lists.{any}
+use mathlib.Core.Path.{refl}
 use Rattle.tree_reader.proofs.Members.{among_done, among_stop, among_next}
 use Rattle.tree_reader.proofs.kinds.kind_among.Goals as goal
 

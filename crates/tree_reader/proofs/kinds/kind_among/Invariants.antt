@@ -1,10 +1,8 @@
-use borrow.Author.Rules.{rules}
 use Prim.Native.Nat.{◌-◌}
-use mathlib.Core.Path.{◌≡◌, refl}
+use mathlib.Core.Path.{◌≡◌}
 use lib.Seq.{slice}
 use lib.Dec.{eqb}
 use Rattle.format_fields.specs.Lists.{any}
-use Rattle.tree_reader.proofs.Members.{among_done, among_stop, among_next}
 use Rattle.tree_reader.proofs.kinds.kind_among.Given as goal
 
 abbrev pub invariant-loop-q : goal.invariant-loop-q

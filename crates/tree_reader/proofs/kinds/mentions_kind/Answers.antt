@@ -1,5 +1,4 @@
 use Rattle.tree_reader.proofs.Members.{mentions_first, mentions_class, mentions_production}
-use borrow.Author.Rules.{rules}
 use Rattle.tree_reader.proofs.kinds.mentions_kind.Goals as goal
 
 pub returns-then-s-p : goal.returns-then-s-p

@@ -1,6 +1,5 @@
 use native.Mathlib.Omega.{arith}
 use Rattle.tree_reader.proofs.Laws.{argument_end, argument_good, argument_bad}
-use borrow.Author.Rules.{rules}
 use Rattle.tree_reader.proofs.node.argument.Goals as goal
 
 pub returns-then-bytes-at : goal.returns-then-bytes-at

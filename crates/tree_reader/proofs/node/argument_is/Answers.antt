@@ -1,5 +1,4 @@
 use Rattle.tree_reader.proofs.Laws.{is_zero, is_past, is_outside, is_kind}
-use borrow.Author.Rules.{rules}
 use Rattle.tree_reader.proofs.node.argument_is.Goals as goal
 
 pub returns-then-i-eq0 : goal.returns-then-i-eq0

@@ -1,6 +1,4 @@
-use native.Mathlib.Omega.{arith}
 use Rattle.tree_reader.proofs.Laws.{code_end, code_name, code_leaf_lem}
-use borrow.Author.Rules.{rules}
 use Rattle.tree_reader.proofs.node.code_node.Goals as goal
 
 pub returns-then-bytes-at : goal.returns-then-bytes-at

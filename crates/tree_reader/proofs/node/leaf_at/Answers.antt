@@ -1,5 +1,4 @@
 use Rattle.tree_reader.proofs.Laws.{leaf_tree, leaf_code}
-use borrow.Author.Rules.{rules}
 use Rattle.tree_reader.proofs.node.leaf_at.Goals as goal
 
 pub returns-in-Tree : goal.returns-in-Tree

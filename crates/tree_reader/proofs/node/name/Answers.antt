@@ -1,6 +1,5 @@
 use Rattle.tree_reader.proofs.Laws.{at_key, name_end, name_unknown, name_known, name_in, kinds_from}
 use native.Mathlib.Omega.{arith}
-use borrow.Author.Rules.{rules}
 use Rattle.tree_reader.proofs.node.name.Goals as goal
 
 pub returns-then-bytes-at : goal.returns-then-bytes-at

@@ -1,5 +1,4 @@
 use Rattle.tree_reader.proofs.Laws.{at_key, place_end, place_name}
-use borrow.Author.Rules.{rules}
 use Rattle.tree_reader.proofs.node.name_place.Goals as goal
 
 pub returns-then-bytes-at : goal.returns-then-bytes-at

@@ -1,6 +1,5 @@
 use native.Mathlib.Omega.{arith}
 use Rattle.tree_reader.proofs.Laws.{numbered_end, numbered_zero, numbered_good, numbered_bad}
-use borrow.Author.Rules.{rules}
 use Rattle.tree_reader.proofs.node.numbered.Goals as goal
 
 pub returns-then-bytes-at-lt2 : goal.returns-then-bytes-at-lt2

@@ -1,7 +1,5 @@
 use native.Mathlib.Omega.{arith}
-use Rattle.tree_reader.proofs.Laws.{leaf_end, leaf_argument, leaf_token, leaf_numbered, leaf_other, class_in}
-use borrow.Author.Rules.{rules}
-use borrow.Author.Rules.{rules}
+use Rattle.tree_reader.proofs.Laws.{leaf_token, leaf_numbered, leaf_other, class_in}
 use Rattle.tree_reader.proofs.node.other_leaf.Goals as goal
 
 pub token-requires : goal.token-requires

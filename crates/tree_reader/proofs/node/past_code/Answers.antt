@@ -1,6 +1,5 @@
 use Rattle.tree_reader.proofs.Laws.{past_end, past_other, past_sign, class_in}
 use native.Mathlib.Omega.{arith}
-use borrow.Author.Rules.{rules}
 use Rattle.tree_reader.proofs.node.past_code.Goals as goal
 
 pub returns-then-bytes-at : goal.returns-then-bytes-at

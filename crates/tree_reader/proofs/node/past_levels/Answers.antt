@@ -1,6 +1,4 @@
 use Rattle.tree_reader.proofs.Laws.{past_tree, past_code}
-use native.Mathlib.Omega.{arith}
-use borrow.Author.Rules.{rules}
 use Rattle.tree_reader.proofs.node.past_levels.Goals as goal
 
 pub returns-in-Tree : goal.returns-in-Tree

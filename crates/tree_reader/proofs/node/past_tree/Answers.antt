@@ -1,6 +1,4 @@
 use Rattle.tree_reader.proofs.Laws.{past_name, past_token, class_in}
-use native.Mathlib.Omega.{arith}
-use borrow.Author.Rules.{rules}
 use Rattle.tree_reader.proofs.node.past_tree.Goals as goal
 
 pub returns-then-class-eq0 : goal.returns-then-class-eq0

@@ -1,5 +1,4 @@
 use Rattle.tree_reader.proofs.Laws.{place_class, place_short, place_sign, place_in_tree, place_in_code}
-use borrow.Author.Rules.{rules}
 use Rattle.tree_reader.proofs.node.production_place.Goals as goal
 
 pub returns-then-class-ne0 : goal.returns-then-class-ne0

@@ -1,7 +1,5 @@
 use native.Mathlib.Omega.{arith}
-use borrow.Author.Tests.{not-true, not-false}
 use Rattle.tree_reader.proofs.Laws.{token_none, token_short, token_out, token_good}
-use borrow.Author.Rules.{rules}
 use Rattle.tree_reader.proofs.node.token.Goals as goal
 
 pub returns-then-place-eq0 : goal.returns-then-place-eq0

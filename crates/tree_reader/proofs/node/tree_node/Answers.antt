@@ -1,6 +1,4 @@
 use Rattle.tree_reader.proofs.Laws.{tree_name, tree_token, class_in}
-use native.Mathlib.Omega.{arith}
-use borrow.Author.Rules.{rules}
 use Rattle.tree_reader.proofs.node.tree_node.Goals as goal
 
 pub returns-then-place-eq0 : goal.returns-then-place-eq0

@@ -1,10 +1,7 @@
-use Prim.Native.Nat.{ℕ, ◌+◌, ◌-◌, ◌*◌, ◌<◌, ◌≤◌}
-use mathlib.Core.Path.{◌≡◌, refl, sym, ◌∙◌}
-use native.Mathlib.Omega.{arith}
+use Prim.Native.Nat.{◌+◌, ◌-◌, ◌*◌, ◌≤◌}
+use mathlib.Core.Path.{◌≡◌}
 use lib.ListN.{length}
-use borrow.Author.Rules.{rules}
 use Rattle.tree_reader.specs.Inner.Positions.{operands_from, read_at, KindsIn}
-use Rattle.tree_reader.proofs.Laws.{read_past, named_past, read_token_lem, read_operands, operands_done, operands_next, operands_last, operands_deep, operands_stop, row_short, named_node, named_in, named_kinds, named_end, end_in, class_at}
 use Rattle.tree_reader.proofs.read.+operands_row.Given as goal
 
 abbrev pub decreases-operands : goal.decreases-operands

@@ -1,5 +1,4 @@
 use Rattle.tree_reader.proofs.Laws.{place_tree, place_code}
-use borrow.Author.Rules.{rules}
 use Rattle.tree_reader.proofs.read.class_place.Goals as goal
 
 pub returns-in-Tree : goal.returns-in-Tree

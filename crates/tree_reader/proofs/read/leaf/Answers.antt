@@ -1,6 +1,5 @@
 use mathlib.Core.Path.{refl}
 use Rattle.tree_reader.proofs.Laws.{class_at, read_token_lem, read_past, leaf_read, none_found}
-use borrow.Author.Rules.{rules}
 use Rattle.tree_reader.proofs.read.leaf.Goals as goal
 
 pub token-requires : goal.token-requires

@@ -1,6 +1,5 @@
 use mathlib.Core.Path.{refl, ◌∙◌}
 use native.Mathlib.Omega.{arith}
-use borrow.Author.Rules.{rules}
 use Rattle.tree_reader.proofs.Laws.{node_code, read_past, read_leaf, read_operands, leaf_in, operands_in}
 use Rattle.tree_reader.proofs.Meaning.{read_meant}
 use Rattle.tree_reader.proofs.read.read_code.Goals as goal

@@ -1,6 +1,5 @@
 use mathlib.Core.Path.{refl, ◌∙◌}
 use native.Mathlib.Omega.{arith}
-use borrow.Author.Rules.{rules}
 use Rattle.tree_reader.proofs.Laws.{node_tree, read_past, read_leaf, read_operands, leaf_in, operands_in}
 use Rattle.tree_reader.proofs.Meaning.{tree_meant}
 use Rattle.tree_reader.proofs.read.read_tree.Goals as goal

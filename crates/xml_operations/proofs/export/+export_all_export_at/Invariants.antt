@@ -1,12 +1,8 @@
-use borrow.Author.Rules.{rules}
 use Prim.Native.Nat.{◌+◌, ◌-◌, ◌*◌, ◌≤◌}
-use mathlib.Core.Path.{◌≡◌, refl, ◌∙◌}
-use native.Mathlib.Omega.{arith}
+use mathlib.Core.Path.{◌≡◌}
 use lib.ListN.{length}
 use Rattle.tree_reader.specs.Inner.Positions.{KindsIn}
-use Rattle.check_operations.proofs.Reading.{at_name, at_place, at_kinds}
-use Rattle.xml_operations.proofs.Exports.{Goes, goes_start, goes_done, next_asks, goes_next, token_there, token_room, token_done, level_left, opening_room, operands_ask, closing_room, node_done, none_inside}
-use Prim.Native.Nat.{ℕ, ◌<◌}
+use Rattle.xml_operations.proofs.Exports.{Goes}
 use Rattle.xml_operations.proofs.export.+export_all_export_at.Given as goal
 
 abbrev pub decreases-export_all : goal.decreases-export_all

@@ -1,10 +1,8 @@
-use Rattle.xml_operations.proofs.Sizes.{Open, open_start, open_done, open_above, open_back, open_in, open_short, open_kind, turn_no_token, turn_deep_token, turn_token, turn_deep, turn_broken, turn_name, turn_place, turn_down}
+use Rattle.xml_operations.proofs.Sizes.{open_start, open_done, open_above, open_back, open_in, open_short, open_kind, turn_no_token, turn_deep_token, turn_token, turn_deep, turn_broken, turn_name, turn_place, turn_down}
 use Rattle.tree_reader.proofs.Laws.{class_in}
-use lib.ListN.{length}
 use native.Mathlib.Omega.{arith}
 use mathlib.Core.Path.{refl}
-use Prim.Native.Nat.{◌+◌, ◌*◌, ◌-◌, ◌<◌}
-use borrow.Author.Rules.{rules}
+use Prim.Native.Nat.{◌-◌, ◌<◌}
 use Rattle.xml_operations.proofs.measure.measure_all.Goals as goal
 
 pub loop-end-init : goal.loop-end-init

@@ -1,6 +1,4 @@
-use borrow.Author.Tests.{not-true, not-false}
 use Rattle.xml_operations.proofs.Measures.{token_short, token_out, token_end}
-use borrow.Author.Rules.{rules}
 use Rattle.xml_operations.proofs.measure.measure_token.Goals as goal
 
 pub returns-then-tree-at-lt2 : goal.returns-then-tree-at-lt2

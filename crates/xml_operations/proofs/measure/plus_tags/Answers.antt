@@ -1,5 +1,4 @@
 use Rattle.xml_operations.proofs.Measures.{tags_sum}
-use borrow.Author.Rules.{rules}
 use Rattle.xml_operations.proofs.measure.plus_tags.Goals as goal
 
 pub returns : goal.returns

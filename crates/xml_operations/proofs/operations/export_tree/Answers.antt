@@ -1,7 +1,6 @@
 use mathlib.Core.Path.{◌≡◌}
 use native.Mathlib.Omega.{arith}
 use Rattle.xml_operations.proofs.Answers.{tree-left, tree_long, tree_asks, tree_done, tree_deep, tree_broken}
-use borrow.Author.Rules.{rules}
 use Rattle.xml_operations.proofs.operations.export_tree.Goals as goal
 
 pub returns-then-e-tree : goal.returns-then-e-tree

@@ -1,6 +1,5 @@
 use mathlib.Core.Path.{refl}
 use native.Mathlib.Omega.{arith}
-use borrow.Author.Rules.{rules}
 use Rattle.tree_reader.proofs.Lookup.{zeros}
 use Rattle.check_operations.proofs.Opening.{opened_language, opened_not, opened_ready}
 use Rattle.xml_operations.proofs.Whole.{import_refused, import_done}

@@ -1,7 +1,5 @@
 use native.Mathlib.Omega.{arith}
-use borrow.Author.Tests.{not-true, not-false}
 use Rattle.xml_operations.proofs.Whole.{text_left, text_long, text_done, text_deep, text_broken}
-use borrow.Author.Rules.{rules}
 use Rattle.xml_operations.proofs.operations.import_text.Goals as goal
 
 pub text_at-requires : goal.text_at-requires

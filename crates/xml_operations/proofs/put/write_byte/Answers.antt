@@ -1,5 +1,4 @@
 use Rattle.xml_operations.proofs.Puts.{written_byte}
-use borrow.Author.Rules.{rules}
 use Rattle.xml_operations.proofs.put.write_byte.Goals as goal
 
 pub returns : goal.returns

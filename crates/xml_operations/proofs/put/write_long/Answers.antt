@@ -2,7 +2,6 @@ use mathlib.Core.Path.{sym}
 use native.Mathlib.Omega.{arith}
 use Rattle.xml_text.proofs.Stores.{written_then}
 use Rattle.xml_operations.proofs.Puts.{written_same, byte_after, byte_end, last_two, last_3, fewer_2, fewer_3}
-use borrow.Author.Rules.{rules}
 use Rattle.xml_operations.proofs.put.write_long.Goals as goal
 
 pub write_short-a-requires : goal.write_short-a-requires

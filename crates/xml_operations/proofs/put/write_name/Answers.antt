@@ -1,5 +1,4 @@
 use Rattle.xml_text.proofs.Stores.{written_then}
-use borrow.Author.Rules.{rules}
 use Rattle.xml_operations.proofs.put.write_name.Goals as goal
 
 pub returns : goal.returns

@@ -1,7 +1,6 @@
 use Rattle.xml_text.specs.Text.{open_node}
 use Rattle.xml_text.proofs.Stores.{written_then}
 use Rattle.xml_operations.proofs.Puts.{written_same, node_is}
-use borrow.Author.Rules.{rules}
 use Rattle.xml_operations.proofs.put.write_opening.Goals as goal
 
 pub returns : goal.returns

@@ -3,7 +3,6 @@ use mathlib.Core.Path.{sym}
 use native.Mathlib.Omega.{arith}
 use Rattle.xml_text.proofs.Stores.{written_then}
 use Rattle.xml_operations.proofs.Puts.{written_same, byte_after, width_1, width_2}
-use borrow.Author.Rules.{rules}
 use Rattle.xml_operations.proofs.put.write_short.Goals as goal
 
 pub write_digit-requires : goal.write_digit-requires

@@ -2,7 +2,6 @@ use mathlib.Core.Path.{sym}
 use native.Mathlib.Omega.{arith}
 use Rattle.xml_text.proofs.Stores.{written_then}
 use Rattle.xml_operations.proofs.Puts.{written_same, byte_after, last_1, fewer_1}
-use borrow.Author.Rules.{rules}
 use Rattle.xml_operations.proofs.put.write_small.Goals as goal
 
 pub write_short-a-requires : goal.write_short-a-requires

@@ -1,7 +1,6 @@
 use native.Mathlib.Omega.{arith}
 use Rattle.xml_text.proofs.Stores.{written_then}
 use Rattle.xml_operations.proofs.Puts.{written_same, token_is, byte_end, kind_end}
-use borrow.Author.Rules.{rules}
 use Rattle.xml_operations.proofs.put.write_token.Goals as goal
 
 pub write_byte-a-requires : goal.write_byte-a-requires

@@ -1,9 +1,6 @@
-use borrow.Author.Rules.{rules}
-use Prim.Native.Nat.{◌+◌, ◌-◌, ◌≤◌}
-use mathlib.Core.Path.{◌≡◌, refl}
+use Prim.Native.Nat.{◌-◌}
+use mathlib.Core.Path.{refl}
 use native.Mathlib.Omega.{arith}
-use lib.ListN.{length, drop}
-use Rattle.xml_text.specs.Inner.Contents.{after}
 use Rattle.xml_text.proofs.Takes.{behind_end, behind_found, behind_again}
 use Rattle.xml_text.proofs.contents.behind.Goals as goal
 

@@ -1,10 +1,7 @@
-use borrow.Author.Rules.{rules}
-use Prim.Native.Nat.{◌+◌, ◌-◌, ◌≤◌}
-use mathlib.Core.Path.{◌≡◌, refl}
-use native.Mathlib.Omega.{arith}
+use Prim.Native.Nat.{◌-◌, ◌≤◌}
+use mathlib.Core.Path.{◌≡◌}
 use lib.ListN.{length, drop}
 use Rattle.xml_text.specs.Inner.Contents.{after}
-use Rattle.xml_text.proofs.Takes.{behind_end, behind_found, behind_again}
 use Rattle.xml_text.proofs.contents.behind.Given as goal
 
 abbrev pub invariant-loop-to : goal.invariant-loop-to

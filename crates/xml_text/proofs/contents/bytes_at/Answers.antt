@@ -1,5 +1,4 @@
 use Rattle.xml_text.proofs.Takes.{holds_none, holds_end, holds_name, holds_value, holds_other}
-use borrow.Author.Rules.{rules}
 use Rattle.xml_text.proofs.contents.bytes_at.Goals as goal
 
 pub returns-then-text-at-ne-OPEN : goal.returns-then-text-at-ne-OPEN

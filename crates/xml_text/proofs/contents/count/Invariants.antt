@@ -1,10 +1,7 @@
-use borrow.Author.Rules.{rules}
 use Prim.Native.Nat.{◌+◌, ◌*◌, ◌-◌, ◌≤◌}
 use mathlib.Core.Path.{◌≡◌}
-use native.Mathlib.Omega.{arith}
 use lib.ListN.{length, drop}
 use Rattle.xml_text.specs.Inner.Contents.{bytes_in}
-use Rattle.xml_text.proofs.Takes.{count_again, count_done}
 use Rattle.xml_text.proofs.contents.count.Given as goal
 
 abbrev pub invariant-loop-at : goal.invariant-loop-at

@@ -1,6 +1,5 @@
 use mathlib.Core.Path.{refl}
 use Rattle.xml_text.proofs.Takes.{fits_short, fits_counted}
-use borrow.Author.Rules.{rules}
 use Rattle.xml_text.proofs.contents.has_room.Goals as goal
 
 pub returns-then-text-room : goal.returns-then-text-room

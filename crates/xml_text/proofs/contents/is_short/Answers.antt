@@ -1,6 +1,5 @@
 use mathlib.Core.Path.{sym}
 use Rattle.xml_text.proofs.Scans.{true_false}
-use borrow.Author.Rules.{rules}
 use Rattle.xml_text.proofs.contents.is_short.Goals as goal
 
 pub returns-then-text-at-ne-POINT : goal.returns-then-text-at-ne-POINT

@@ -1,5 +1,4 @@
 use Rattle.xml_text.proofs.Takes.{take_short, take_closing}
-use borrow.Author.Rules.{rules}
 use Rattle.xml_text.proofs.contents.take.Goals as goal
 
 pub returns-then-text-at-lt-SHORTEST : goal.returns-then-text-at-lt-SHORTEST

@@ -1,7 +1,6 @@
 use native.Mathlib.Omega.{arith}
 use mathlib.Core.Path.{refl}
 use Rattle.xml_text.proofs.Takes.{name_full, name_short, name_nothing, name_cut, name_done}
-use borrow.Author.Rules.{rules}
 use Rattle.xml_text.proofs.contents.take_name.Goals as goal
 
 pub returns-then-out-n-lt1 : goal.returns-then-out-n-lt1

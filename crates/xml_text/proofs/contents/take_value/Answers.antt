@@ -2,7 +2,6 @@ use native.Mathlib.Omega.{arith}
 use mathlib.Core.Path.{refl}
 use Rattle.xml_text.proofs.Scans.{is_inside}
 use Rattle.xml_text.proofs.Takes.{value_full, value_cut, value_nothing, value_short, value_done, second_in}
-use borrow.Author.Rules.{rules}
 use Rattle.xml_text.proofs.contents.take_value.Goals as goal
 
 pub returns-then-out-n-lt2 : goal.returns-then-out-n-lt2

@@ -1,10 +1,6 @@
-use borrow.Author.Rules.{rules}
-use Prim.Native.Nat.{ℕ, ◌-◌, ◌≤◌}
-use mathlib.Core.Path.{◌≡◌, refl, ◌∙◌}
-use mathlib.Core.List.{List}
+use Prim.Native.Nat.{◌-◌}
+use mathlib.Core.Path.{refl, ◌∙◌}
 use native.Mathlib.Omega.{arith}
-use lib.ListN.{length}
-use Rattle.xml_text.specs.Inner.Contents.{Contents, Written-to}
 use Rattle.xml_text.proofs.Takes.{taken_start, taken_done, taken_full, taken_again}
 use Rattle.xml_text.proofs.contents.write_contents.Goals as goal
 

@@ -1,11 +1,8 @@
-use borrow.Author.Rules.{rules}
 use Prim.Native.Nat.{ℕ, ◌-◌, ◌≤◌}
-use mathlib.Core.Path.{◌≡◌, refl, ◌∙◌}
+use mathlib.Core.Path.{◌≡◌}
 use mathlib.Core.List.{List}
-use native.Mathlib.Omega.{arith}
 use lib.ListN.{length}
 use Rattle.xml_text.specs.Inner.Contents.{Contents, Written-to}
-use Rattle.xml_text.proofs.Takes.{taken_start, taken_done, taken_full, taken_again}
 use Rattle.xml_text.proofs.contents.write_contents.Given as goal
 
 abbrev pub invariant-loop-at : goal.invariant-loop-at

@@ -1,6 +1,5 @@
 use native.Mathlib.Omega.{arith}
 use Rattle.xml_text.proofs.Imports.{element_nothing, element_unknown, element_place, element_found}
-use borrow.Author.Rules.{rules}
 use Rattle.xml_text.proofs.import.element_at.Goals as goal
 
 pub opening_at-requires : goal.opening_at-requires

@@ -1,6 +1,5 @@
 use native.Mathlib.Omega.{arith}
 use Rattle.xml_text.proofs.Imports.{place_large, place_small}
-use borrow.Author.Rules.{rules}
 use Rattle.xml_text.proofs.import.place_of.Goals as goal
 
 pub returns-then-name-ge-NAMES : goal.returns-then-name-ge-NAMES

@@ -1,10 +1,6 @@
-use Rattle.xml_text.proofs.Rows.{Open, open_start, open_done, open_above, open_unclosed, open_back, open_in, open_short, open_kind, turn_no_token, turn_token, turn_not, turn_deep, turn_no_element, turn_past, turn_down}
-use Rattle.tree_reader.proofs.Laws.{class_in}
+use Rattle.xml_text.proofs.Rows.{Open}
 use lib.ListN.{length}
-use native.Mathlib.Omega.{arith}
-use mathlib.Core.Path.{refl}
-use Prim.Native.Nat.{◌+◌, ◌*◌, ◌-◌, ◌<◌}
-use borrow.Author.Rules.{rules}
+use Prim.Native.Nat.{◌+◌, ◌*◌, ◌-◌}
 use Rattle.xml_text.proofs.import.text_at.Given as goal
 
 abbrev pub invariant-loop-end : goal.invariant-loop-end

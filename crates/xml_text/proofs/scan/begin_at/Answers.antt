@@ -1,5 +1,4 @@
 use Rattle.xml_text.proofs.Scans.{begin_first, begin_second, begin_digit, begin_end, begin_done, begin_tens, begin_ones, begin_last, begin_both}
-use borrow.Author.Rules.{rules}
 use Rattle.xml_text.proofs.scan.begin_at.Goals as goal
 
 pub returns-then-text-at-ne-OPEN : goal.returns-then-text-at-ne-OPEN

@@ -1,5 +1,4 @@
 use Rattle.xml_text.proofs.Scans.{closes_short, closes_usual}
-use borrow.Author.Rules.{rules}
 use Rattle.xml_text.proofs.scan.closing_at.Goals as goal
 
 pub returns-then-text-at : goal.returns-then-text-at

@@ -1,5 +1,4 @@
 use Rattle.xml_text.proofs.Scans.{tells_short, tells_other, tells_none, tells_some}
-use borrow.Author.Rules.{rules}
 use Rattle.xml_text.proofs.scan.is_token.Goals as goal
 
 pub returns-then-text-at-lt-SHORTEST : goal.returns-then-text-at-lt-SHORTEST

@@ -1,10 +1,5 @@
-use borrow.Author.Rules.{rules}
-use Prim.Native.Nat.{◌+◌, ◌-◌, ◌<◌, ◌≤◌}
-use mathlib.Core.Path.{◌≡◌}
+use Prim.Native.Nat.{◌-◌}
 use native.Mathlib.Omega.{arith}
-use lib.ListN.{length, drop}
-use borrow.Author.Tests.{not-true, not-false}
-use Rattle.xml_text.specs.Import.{read_number, read_digits}
 use Rattle.xml_text.proofs.Scans.{number_end, number_zero, number_other, first_range, number_start, number_last, number_stops, next_range, number_again, number_large}
 use Rattle.xml_text.proofs.scan.number_at.Goals as goal
 

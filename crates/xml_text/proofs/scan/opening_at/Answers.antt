@@ -1,5 +1,4 @@
 use Rattle.xml_text.proofs.Scans.{at_inside, opening_short, opening_nothing, opening_third, opening_end, opening_fourth, opening_done}
-use borrow.Author.Rules.{rules}
 use Rattle.xml_text.proofs.scan.opening_at.Goals as goal
 
 pub returns-then-text-at-lt-SHORTEST : goal.returns-then-text-at-lt-SHORTEST

@@ -1,10 +1,5 @@
-use borrow.Author.Rules.{rules}
-use Prim.Native.Nat.{◌+◌, ◌-◌, ◌≤◌}
-use mathlib.Core.Path.{◌≡◌}
+use Prim.Native.Nat.{◌-◌}
 use native.Mathlib.Omega.{arith}
-use lib.ListN.{length, drop}
-use Rattle.xml_text.specs.Import.{read_word}
-use Rattle.xml_text.specs.Inner.Scanning.{closes}
 use Rattle.xml_text.proofs.Scans.{closes_first, closes_second, closes_start, closes_differs, closes_again, closes_done}
 use Rattle.xml_text.proofs.scan.same_at.Goals as goal
 

@@ -1,11 +1,8 @@
-use borrow.Author.Rules.{rules}
 use Prim.Native.Nat.{◌+◌, ◌-◌, ◌≤◌}
 use mathlib.Core.Path.{◌≡◌}
-use native.Mathlib.Omega.{arith}
-use lib.ListN.{length, drop}
+use lib.ListN.{drop}
 use Rattle.xml_text.specs.Import.{read_word}
 use Rattle.xml_text.specs.Inner.Scanning.{closes}
-use Rattle.xml_text.proofs.Scans.{closes_first, closes_second, closes_start, closes_differs, closes_again, closes_done}
 use Rattle.xml_text.proofs.scan.same_at.Given as goal
 
 abbrev pub invariant-loop-i : goal.invariant-loop-i

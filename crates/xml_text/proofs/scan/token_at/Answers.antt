@@ -1,8 +1,6 @@
 use native.Mathlib.Omega.{arith}
 use mathlib.Core.Path.{refl}
-use borrow.Author.Tests.{not-true, not-false}
 use Rattle.xml_text.proofs.Scans.{at_inside, is_inside, class_high, closes_short, token_short, token_nothing, token_cut, token_second, token_out, token_third, token_done}
-use borrow.Author.Rules.{rules}
 use Rattle.xml_text.proofs.scan.token_at.Goals as goal
 
 pub returns-then-text-at-lt-SHORTEST : goal.returns-then-text-at-lt-SHORTEST

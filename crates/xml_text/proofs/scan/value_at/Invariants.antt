@@ -1,11 +1,7 @@
-use borrow.Author.Rules.{rules}
 use Prim.Native.Nat.{◌+◌, ◌-◌, ◌<◌, ◌≤◌}
 use mathlib.Core.Path.{◌≡◌}
-use native.Mathlib.Omega.{arith}
-use lib.ListN.{length, drop}
-use borrow.Author.Tests.{not-true, not-false}
+use lib.ListN.{drop}
 use Rattle.xml_text.specs.Import.{read_number, read_digits}
-use Rattle.xml_text.proofs.Scans.{number_zero, number_other, first_range, number_start, number_stops, next_range, number_on, number_large}
 use Rattle.xml_text.proofs.scan.value_at.Given as goal
 
 abbrev pub invariant-loop-i : goal.invariant-loop-i
