@@ -175,18 +175,18 @@ pub regrouped : (c : Constants) → GoodConstants c → (f g h : Term translatio
     → u ≡ v
 regrouped c good f g h u v e d =
     let p = join_value c (join f g) h u e in
-    let q = join_value c f g p.first p.first-value in
+    let q = join_value c f g p.first p.first_value in
     let r = join_value c f (join g h) v d in
     let x = q.first in
     let y = q.second in
     let z = p.second in
-    let yz = operands_join c g h y z r.second q.second-value p.second-value r.second-value in
-    let outer = operands_join c f (join g h) x r.second v q.first-value r.second-value d in
-    let sx = (value_good c good f x q.first-value).sound in
-    let sy = (value_good c good g y q.second-value).sound in
-    let sz = (value_good c good h z p.second-value).sound in
-    let left = sound_value x y p.first sx sy (value_good c good (join f g) p.first p.first-value).sound q.says in
-    let right = sound_value y z r.second sy sz (value_good c good (join g h) r.second r.second-value).sound yz in
+    let yz = operands_join c g h y z r.second q.second_value p.second_value r.second_value in
+    let outer = operands_join c f (join g h) x r.second v q.first_value r.second_value d in
+    let sx = (value_good c good f x q.first_value).sound in
+    let sy = (value_good c good g y q.second_value).sound in
+    let sz = (value_good c good h z p.second_value).sound in
+    let left = sound_value x y p.first sx sy (value_good c good (join f g) p.first p.first_value).sound q.says in
+    let right = sound_value y z r.second sy sz (value_good c good (join g h) r.second r.second_value).sound yz in
     let low : numbers_low (joined x y) ≡ true = ap numbers_low q.says.is ∙ p.says.low_first in
     let low-last : numbers_low (joined y z) ≡ true = ap numbers_low yz.is ∙ outer.low_second in
     sym p.says.is

@@ -8,7 +8,7 @@ use Rattle.outcome.specs.Outcome.{value}
 use Rattle.format_fields.specs.Lists.{keep, concat_map}
 use Rattle.format_fields.proofs.Truth.{Mem, keep_cases, mem_keep, mem_map, map_cases, mem_append, append_cases, mem_concat, concat_cases}
 use Rattle.format_fields.proofs.Keyed.{union_cases}
-use Rattle.format_language.specs.Language.{Entry, production, Language, entry_key, is_in}
+use Rattle.format_language.specs.Language.{Entry, class, production, Language, entry_key, is_in}
 use Rattle.format_language.proofs.Lookup.{in_larger, in_union}
 use Rattle.format_translation.specs.Translation.{Item, mapping, Body, Translation}
 use Rattle.format_translation.specs.WellFormed.{kinds}
@@ -61,6 +61,8 @@ item_cases l x m =
 no_mapping : {A : Type 0} (k j t : ℕ) (a : Entry) → Mem (mapping k j t) (identity_clause a) → A
 unfolding identity_clause
 no_mapping k j t (production r p ks) (inl e) = mapping_clause e
+no_mapping {A = A} k j t (production r p ks) (inr x3) = elim x3 [ ]
+no_mapping {A = A} k j t (class kind values) x' = elim x' [ ]
 
 -- The identity of a language lies in that of a larger one.
 module _ (l u : Language) (h : Subset l u) where

@@ -113,13 +113,13 @@ module _ (c : Constants) (good : GoodConstants c) where
       let p = join_value c f (sum g h) v e in
       let x = p.first in
       let w = p.second in
-      let q = sum_parts c good g h w p.second-value in
-      let sw = (value_good c good (sum g h) w p.second-value).sound in
+      let q = sum_parts c good g h w p.second_value in
+      let sw = (value_good c good (sum g h) w p.second_value).sound in
       let sy = (value_good c good g q.0 q.2).sound in
       let sz = (value_good c good h q.1 q.3).sound in
       let j = subst GoodTranslation (sym p.says.is) (value_good c good (join f (sum g h)) v e) in
-      let a = join_part f g x q.0 w v p.first-value q.2 sw q.4 j p.says in
-      let b = join_part f h x q.1 w v p.first-value q.3 sw q.5 j p.says in
+      let a = join_part f g x q.0 w v p.first_value q.2 sw q.4 j p.says in
+      let b = join_part f h x q.1 w v p.first_value q.3 sw q.5 j p.says in
       value_whole c good (join f g) (join f h) (joined x q.0) (joined x q.1) (joined x w) a b j
       (joined_lies q.0 w sy sw q.4 x) (joined_lies q.1 w sz sw q.5 x)
       (joined_either x q.0 q.1 w sy sz sw q.4 q.5 q.6) ∙ ap value p.says.is

@@ -109,9 +109,9 @@ joined_without c good f g l v e =
     let y = j.second in
     let z = translation_without y m in
     let lies = lies_without y m in
-    let gy = value_good c good g y j.second-value in
-    let p = value_without c g l y m j.second-value w.3 (lies_within z y (sound_without y m gy.sound) gy lies) in
+    let gy = value_good c good g y j.second_value in
+    let p = value_without c g l y m j.second_value w.3 (lies_within z y (sound_without y m gy.sound) gy lies) in
     let same : joined x z ≡ v = joined_left y m x gy.sound ∙ (ap (λ (t : Translation). translation_without t m) j.says.is ∙ w.4.is) in
-    value_join c f (without g l) x z j.first-value p (part_fits x z y lies j.says.fits) j.says.low_first (part_low z y lies j.says.low_second)
+    value_join c f (without g l) x z j.first_value p (part_fits x z y lies j.says.fits) j.says.low_first (part_low z y lies j.says.low_second)
     (subst (λ (t : Translation). translation_exceeds t ≡ false) (sym same) w.4.within)
     ∙ ap value same

@@ -110,12 +110,12 @@ fitted_refused : (over : Bool) (bytes : List ℕ) (r : Reason) → OfTree r → 
 fitted_refused over bytes r k e = clash over r k (ap numbered e)
   where
     clash : (over : Bool) (r : Reason) → OfTree r → numbered (refuse_if over OutputTooShort (value bytes)) ≡ reason_number r → ⊥
-    clash true UnknownRoot of_root n = omega arith
-    clash false UnknownRoot of_root n = omega arith
-    clash true IllegalTree of_bytes n = omega arith
-    clash false IllegalTree of_bytes n = omega arith
-    clash true TooDeep of_levels n = omega arith
-    clash false TooDeep of_levels n = omega arith
+    clash true r of_root n = omega arith
+    clash false r of_root n = omega arith
+    clash true r of_bytes n = omega arith
+    clash false r of_bytes n = omega arith
+    clash true r of_levels n = omega arith
+    clash false r of_levels n = omega arith
 
 -- A refusal that comes of the first step comes whatever the next step is.
 first_refused : (o : Result Code) (next other : Code → Result (List ℕ)) (r : Reason) → ((t : Code) → next t ≡ refused r → ⊥)

@@ -32,6 +32,7 @@ module _ (c : Constants) (good : GoodConstants c) where
       (λ n. let r = built_lies a p.0 p.2 t n in (r.0, r.1, lies_further r.2 p.4))
       (λ n. let r = built_lies b p.1 p.3 t n in (r.0, r.1, lies_further r.2 p.5))
       (append_cases t (built_from a) (built_from b) m)
+  built_lies (alone u) v e t (inr x3) = elim x3 [ ]
 
   -- A sum built from terms whose values lie in a good translation has a value that lies in it.
   lies_built : (s : Sum) (v : Translation) → GoodTranslation v → ((t : Term translations) → In t (built_from s) → ValueIn v t) → ValueIn v (as_term s)
@@ -62,6 +63,7 @@ scoped_built l b (alone u) e t (inl q) = ap (scoped l b) q ∙ e
 scoped_built l b (plus x y) e t m =
     let r = and_both (scoped l b (as_term x)) (scoped l b (as_term y)) e in
     ⊎_elim (λ n. scoped_built l b x r.0 t n) (λ n. scoped_built l b y r.1 t n) (append_cases t (built_from x) (built_from y) m)
+scoped_built l b (alone u) e t (inr x3) = elim x3 [ ]
 
 built_scoped : (l b : ℕ) (s : Sum) → ((t : Term translations) → In t (built_from s) → scoped l b t ≡ true) → scoped l b (as_term s) ≡ true
 unfolding as_term built_from scoped

@@ -84,43 +84,43 @@ module _ (i : ℕ) where
     elsewhere_all (cons a t) h e = let z = or_false (uses i a) (uses_any i t) e in (elsewhere a h.0 z.0, elsewhere_all t h.1 z.1)
 
 -- A row with one operand replaced.
-abbrev put : {k i : ℕ} {u : Code} {ks : List ℕ} {t : Codes} → Operand k u i ks t → Code → Codes
+abbrev put : {k : ℕ} {u : Code} {i : ℕ} {ks : List ℕ} {t : Codes} → Operand k u i ks t → Code → Codes
 put (Laws.first {t = t}) v = cons v t
 put (Laws.later {a = a} o) v = cons a (put o v)
 
-operand_typed : {l : Language} {k i : ℕ} {u : Code} {ks : List ℕ} {t : Codes} → Operand k u i ks t → TypedAll l [] t ks → Typed l [] u k
+operand_typed : {l : Language} {k : ℕ} {u : Code} {i : ℕ} {ks : List ℕ} {t : Codes} → Operand k u i ks t → TypedAll l [] t ks → Typed l [] u k
 operand_typed Laws.first (typed_cons h hs) = h
 operand_typed (Laws.later o) (typed_cons h hs) = operand_typed o hs
 
-operand_within : {k i n : ℕ} {u : Code} {ks : List ℕ} {t : Codes} → Operand k u i ks t → levels_all t ≤ n → levels u ≤ n
+operand_within : {k : ℕ} {u : Code} {i n : ℕ} {ks : List ℕ} {t : Codes} → Operand k u i ks t → levels_all t ≤ n → levels u ≤ n
 unfolding levels
 operand_within Laws.first d = omega arith
 operand_within (Laws.later o) d = operand_within o (omega arith)
 
 module _ (v : Code) where
-  put_typed : {l : Language} {k i : ℕ} {u : Code} {ks : List ℕ} {t : Codes} (o : Operand k u i ks t) → TypedAll l [] t ks → Typed l [] v k → TypedAll l [] (put o v) ks
+  put_typed : {l : Language} {k : ℕ} {u : Code} {i : ℕ} {ks : List ℕ} {t : Codes} (o : Operand k u i ks t) → TypedAll l [] t ks → Typed l [] v k → TypedAll l [] (put o v) ks
   put_typed Laws.first (typed_cons h hs) g = typed_cons g hs
   put_typed (Laws.later o) (typed_cons h hs) g = typed_cons h (put_typed o hs g)
 
-  put_within : {k i n : ℕ} {u : Code} {ks : List ℕ} {t : Codes} (o : Operand k u i ks t) → levels_all t ≤ n → levels v ≤ n → levels_all (put o v) ≤ n
+  put_within : {k : ℕ} {u : Code} {i n : ℕ} {ks : List ℕ} {t : Codes} (o : Operand k u i ks t) → levels_all t ≤ n → levels v ≤ n → levels_all (put o v) ≤ n
   unfolding levels
   put_within Laws.first d w = omega arith
   put_within (Laws.later o) d w = let r = put_within o (omega arith) w in omega arith
 
-  put_earlier : {k i : ℕ} {u : Code} {ks : List ℕ} {t : Codes} (o : Operand k u i ks t) → Earlier v u → EarlierAll (put o v) t
+  put_earlier : {k : ℕ} {u : Code} {i : ℕ} {ks : List ℕ} {t : Codes} (o : Operand k u i ks t) → Earlier v u → EarlierAll (put o v) t
   put_earlier Laws.first h = at_first h
   put_earlier (Laws.later o) h = after (put_earlier o h)
 
   module _ (c : Clauses) where
     -- The other operands stay, and so does the replaced one's run, where it is the same.
-    put_others : {k i : ℕ} {u : Code} {ks : List ℕ} {t : Codes} (o : Operand k u i ks t) (x : ℕ) → (suc x ≡ i → ⊥) → run_operand c (put o v) x 0 ≡ run_operand c t x 0
+    put_others : {k : ℕ} {u : Code} {i : ℕ} {ks : List ℕ} {t : Codes} (o : Operand k u i ks t) (x : ℕ) → (suc x ≡ i → ⊥) → run_operand c (put o v) x 0 ≡ run_operand c t x 0
     unfolding run
     put_others Laws.first zero h = absurd (h refl)
     put_others Laws.first (suc x) h = refl
     put_others (Laws.later o) zero h = refl
     put_others (Laws.later o) (suc x) h = put_others o x (λ e. h (ap suc e))
 
-    put_same : {k i : ℕ} {u : Code} {ks : List ℕ} {t : Codes} (o : Operand k u i ks t) → run c 0 v ≡ run c 0 u → (x : ℕ) → run_operand c (put o v) x 0 ≡ run_operand c t x 0
+    put_same : {k : ℕ} {u : Code} {i : ℕ} {ks : List ℕ} {t : Codes} (o : Operand k u i ks t) → run c 0 v ≡ run c 0 u → (x : ℕ) → run_operand c (put o v) x 0 ≡ run_operand c t x 0
     unfolding run
     put_same Laws.first e zero = e
     put_same Laws.first e (suc x) = refl
@@ -186,12 +186,12 @@ module _ (file : List ℕ) (f : Translation) (accepted : translation_of file ≡
       }
 
   -- What stands below a legal tree is a legal tree of some kind.
-  below_typed : {n m : ℕ} {b t : Code} → Below f n b m t → (kind : ℕ) → Typed f.source [] t kind → (k : ℕ) × Typed f.source [] b k
+  below_typed : {n : ℕ} {b : Code} {m : ℕ} {t : Code} → Below f n b m t → (kind : ℕ) → Typed f.source [] t kind → (k : ℕ) × Typed f.source [] b k
   below_typed itself kind h = (kind, h)
   below_typed (under {j = j} {k = k} {p = p} e o b) kind h = below_typed b j (operand_typed o (row_typed k p e h).0)
 
   -- What stands below is replaced.
-  swap : {n m : ℕ} {b t : Code} → Below f n b m t → (kind : ℕ) → Typed f.source [] t kind → levels t ≤ m
+  swap : {n : ℕ} {b : Code} {m : ℕ} {t : Code} → Below f n b m t → (kind : ℕ) → Typed f.source [] t kind → levels t ≤ m
       → ((k : ℕ) → Typed f.source [] b k → levels b ≤ n → Swapped f.source (clauses_of f) n k b) → Swapped f.source (clauses_of f) m kind t
   unfolding levels
   swap itself kind h d s = s kind h d

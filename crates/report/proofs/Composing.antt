@@ -101,11 +101,13 @@ module _ (f g : Translation) (w : LiesWithin g.target f.source) (wf : WellFormed
   unfolding images
   images_composed (a ∷ l) h x (inl e) = subst (Composed f g) (sym e) (image a (h a here)).1
   images_composed (a ∷ l) h x (inr m) = images_composed l (λ b n. h b (later n)) x m
+  images_composed [] h x x3 = elim x3 [ ]
 
   composed_images : (l : Body) (h : (a : Item) → a ∈ l → a ∈ g.body) (a x : Item) → Mem a l → Composed f g x → item_key x ≡ item_key a → Mem x (images l h)
   unfolding images
   composed_images (b ∷ l) h a x (inl e) c k = let i = image b (h b here) in inl (composed_one x i.0 c i.1 (k ∙ (ap item_key e ∙ sym i.2)))
   composed_images (b ∷ l) h a x (inr m) c k = inr (composed_images l (λ d n. h d (later n)) a x m c k)
+  composed_images [] h a x x5 c k = elim x5 [ ]
 
   -- A composed item has the key of an item of the second.
   origin : (x : Item) → Composed f g x → (a : Item) × (a ∈ g.body) × (item_key x ≡ item_key a)

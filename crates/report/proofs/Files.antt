@@ -47,6 +47,7 @@ each_read {A} decode P h (f ∷ fs) l b e =
 each_mem : {A : Type 0} (P : A → Type 0) (l : List A) → Each P l → (a : A) → Mem a l → P a
 each_mem P (b ∷ l) h a (inl e) = subst P (sym e) h.0
 each_mem P (b ∷ l) h a (inr m) = each_mem P l h.1 a m
+each_mem {A = A} P [] h a x'' = elim x'' [ ]
 
 cond_has : {A : Type 0} (P : A → Type 0) (t : Bool) (x a : A) → P x → cond t (some x) none ≡ some a → P a
 cond_has P t x a h e = subst P (cond_some t x a e).1 h

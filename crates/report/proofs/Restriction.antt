@@ -39,6 +39,7 @@ gap_at : (ks : List ℕ) (m i : ℕ) (a : Code) → At (gaps_from (suc m) ks) (s
 unfolding gaps_from
 gap_at (k ∷ ks) m zero a at_first = let z : suc m ≡ suc (m + 0) = omega arith in ap (λ (x : ℕ). argument x 0) z
 gap_at (k ∷ ks) m (suc i) a (at_later x) = let z : suc (suc m + i) ≡ suc (m + suc i) = omega arith in gap_at ks (suc m) i a x ∙ ap (λ (y : ℕ). argument y 0) z
+gap_at [] m i a x' = elim x' [ ]
 
 first_gap : (m k : ℕ) (ks : List ℕ) → At (gaps_from (suc m) (k ∷ ks)) (suc zero) (argument (suc (m + 0)) 0)
 unfolding gaps_from
@@ -65,6 +66,7 @@ at_gap {ks} {i} {k} m p = go ks i m p
     go : (ks : List ℕ) (i m : ℕ) → Picked ks (suc i) k → At (gaps_from (suc m) ks) (suc i) (argument (suc (m + i)) 0)
     go (k ∷ ks) zero m picked_first = first_gap m k ks
     go (j ∷ ks) (suc i) m (picked_later q) = later_gap m i j ks (go ks i (suc m) q)
+    go [] _ m x' = elim x' [ ]
 
 at_place : (ks : List ℕ) (i : ℕ) (a : Code) → At (gaps_from 1 ks) i a → a ≡ argument i 0
 at_place ks zero a x = absurd (at_some x refl)

@@ -40,6 +40,7 @@ at_run : (c : Clauses) {l : Language} {ρ : Gaps} {ts : Codes} {ks : List ℕ} {
 unfolding run from_one
 at_run c (have_more x xs) picked_first = at_first
 at_run c (have_more x xs) (picked_later p) = at_later (at_run c xs p)
+at_run c {l = l} {ρ = ρ} {i = i} {k = k} have_none x4 = elim x4 [ ]
 
 -- A code is substituted by what the project puts in.
 module _ {l : Language} {σ : Gaps} {ρ : Fillings} (s : Replacing) (h : (i k : ℕ) → σ i k → ρ i (s i 0)) where

@@ -13,6 +13,7 @@ use Rattle.report.specs.Sets.{◌∈◌, here, later}
 pub mem_in : {A : Type 0} (a : A) (l : List A) → Mem a l → a ∈ l
 mem_in a (b ∷ l) (inl e) = rw e here
 mem_in a (b ∷ l) (inr m) = later (mem_in a l m)
+mem_in {A = A} a [] x' = elim x' [ ]
 
 pub in_mem : {A : Type 0} {a : A} {l : List A} → a ∈ l → Mem a l
 in_mem here = inl refl

@@ -67,6 +67,7 @@ module _ {l : Language} {σ : Gaps} {ρ : Fillings} (h : (i k : ℕ) → σ i k 
 pub filled : {f : Translation} {l : Language} {ρ : Gaps} {t u : Codes} {ks : List ℕ} {i k : ℕ} → HaveKinds l ρ t ks → TransformsAll f t u → Picked ks i k → (b : Code) × At u i b
 filled (have_more x xs) (transforms_more {b = b} y ys) picked_first = (b, at_first)
 filled (have_more x xs) (transforms_more y ys) (picked_later p) = let q = filled xs ys p in (q.0, at_later q.1)
+filled {f = f} {l = l} {ρ = ρ} {u = u} {i = i} {k = k} have_none _ x8 = elim x8 [ ]
 
 -- The reconstructor of a source production.
 pub has_reconstructor : (f : Translation) → WellFormed f → (n p : ℕ) (ks : List ℕ) → production n p ks ∈ f.source
@@ -132,3 +133,4 @@ module _ (f : Translation) (w : WellFormed f) {ρ : Gaps} where
         → mapping k 0 t ∈ f.body → HasKind f.target (Through f.body ρ) b t
     transformed_at (have_more x xs) (transforms_more y ys) picked_first at_first m = transformed_has x y m
     transformed_at (have_more x xs) (transforms_more y ys) (picked_later p) (at_later q) m = transformed_at xs ys p q m
+    transformed_at {us = us} {i = i} {k = k} {t = t} {b = b} have_none _ x17 _ m = elim x17 [ ]

@@ -40,12 +40,12 @@ module _ (table source target places kinds bytes memory free : List ℕ) (k : �
 
   first_by : (v : List ℕ) → search_of f limit k (write tree u) ≡ some v → (t : Code) × First f.source (clauses_of f) limit k (some u) t × (v ≡ write tree t)
   first_by v e =
-      search_first f (apart f.source h.setting.apart) (apart f.target h.setting.targeted.target-index.apart) h.setting.named carries
+      search_first f (apart f.source h.setting.apart) (apart f.target h.setting.targeted.target_index.apart) h.setting.named carries
       h.setting.targeted.has_zero limit k u h.asked.1.typed v e
 
   none_by : search_of f limit k (write tree u) ≡ none → (t : Code) → Fits f.source (clauses_of f) limit k (some u) t → ⊥
   none_by e =
-      search_none f (apart f.source h.setting.apart) (apart f.target h.setting.targeted.target-index.apart) h.setting.named carries
+      search_none f (apart f.source h.setting.apart) (apart f.target h.setting.targeted.target_index.apart) h.setting.named carries
       h.setting.targeted.has_zero limit k u h.asked.1.typed e
 
   module _ (needed : ℕ) (n : Needs f.source (clauses_of f) limit k (some u) needed) where

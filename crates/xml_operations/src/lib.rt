@@ -1,5 +1,6 @@
 // Trees as XML: export and import.
 #![tactic(auto)]
+
 pub mod export;
 pub mod measure;
 pub mod operations;

@@ -1,0 +1,22 @@
+use mathlib.Core.Path.{refl}
+use native.Mathlib.Omega.{arith}
+use borrow.Author.Rules.{rules}
+use Rattle.tree_reader.proofs.Lookup.{zeros}
+use Rattle.check_operations.proofs.Opening.{opened_language, opened_not, opened_ready}
+use Rattle.xml_operations.proofs.Whole.{import_refused, import_done}
+use Rattle.xml_operations.proofs.operations.import.Goals as goal
+
+pub open_language-outcome-requires : goal.open_language-outcome-requires
+open_language-outcome-requires c = (refl, zeros 8224)
+
+pub returns-in-Refused : goal.returns-in-Refused
+returns-in-Refused c = import_refused _ _ _ _ (opened_not _ _ c.open_language-outcome.ensures.is c.in-Refused.is) c.refuse.ensures
+
+pub overflow_cast-root : goal.overflow_cast-root
+overflow_cast-root c = let o = (opened_language _ _ c.open_language-outcome.ensures.is c.in_default.is) in omega (arith, (c.open_language-outcome.ensures.opened o.0 o.1).kind)
+
+pub import_text-requires : goal.import_text-requires
+import_text-requires c = let o = (opened_language _ _ c.open_language-outcome.ensures.is c.in_default.is) in opened_ready _ _ _ _ (c.open_language-outcome.ensures.opened o.0 o.1) _
+
+pub returns : goal.returns
+returns c = let o = (opened_language _ _ c.open_language-outcome.ensures.is c.in_default.is) in import_done _ _ _ _ o.0 o.1 _ _ (c.open_language-outcome.ensures.opened o.0 o.1).alone.indexed c.import_text.ensures
