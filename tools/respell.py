@@ -3,7 +3,7 @@
 
 usage: respell.py [--check] [--table FILE] [--by FILE] [FOLDER]
 
-It reads what the .antt files below FOLDER/crates declare, proofs of functions (Proof.antt, Answers.antt, Invariants.antt) apart, and rewrites these words in all
+It reads what the .antt files below FOLDER/crates declare, the proofs of functions (Proof.antt, Answers.antt, Invariants.antt in a folder of their own) apart, and rewrites these words in all
 .antt files, in the clauses and `ghost use` items of .rt files and in the lines of must-fail edits. In comments only words between backticks turn. A word stays in a file that has
 it from a library. A word whose new spelling stands in a file beside the old one gets `_lem` at its end. --check writes nothing and prints each new name.
 --table writes the table of names to FILE, and --by takes it from there.
@@ -133,7 +133,7 @@ def main(argv):
     texts = {p: read(p) for p in files(root)}
     names, fields, parts = set(), set(), set()
     for p, t in texts.items():
-        if p.endswith(".antt") and os.path.basename(p) not in OF_FUNCTION:
+        if p.endswith(".antt") and (os.path.basename(p) not in OF_FUNCTION or os.path.basename(os.path.dirname(p)) in ("proofs", "specs")):
             n, f, r = declared(t)
             names |= n
             fields |= f

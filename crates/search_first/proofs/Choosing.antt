@@ -10,7 +10,7 @@ use Rattle.format_translation.specs.Running.{Clauses}
 use Rattle.search_sources.specs.Inner.Goals.{Goal, Fits, First}
 use Rattle.search_sources.specs.Inner.Levels.{NeedsNamed}
 use Rattle.search_levels.specs.Inner.Setting.{Without}
-use Rattle.search_sources.proofs.Answers.{Named, fits_more, first-name, kind-node}
+use Rattle.search_sources.proofs.Answers.{Named, fits_more, first_name, kind_node}
 
 -- No tree has a name below `name`.
 abbrev pub NoneBelow : Language → Clauses → ℕ → ℕ → Goal → ℕ → Type 0
@@ -34,10 +34,10 @@ module _ (l : Language) (f : Clauses) (n k : ℕ) (g : Goal) where
         let z = q.finds i in
         let e : z.0 ≡ name = omega (arith, z.1, z.2) in
         let w : Fits l f (suc n) k g (node k name z.3) = rw e at (fits_more {n = suc r} {m = suc n} (omega arith) z.4) in
-        let y = first-name l f named k g plain n name t h below z.3 w in
+        let y = first_name l f named k g plain n name t h below z.3 w in
         (y.0, y.1, few)
 
     pub choose_none : (name : ℕ) → 256 ≤ name → NoneBelow l f n k g name → (s : Codes) × (t ≡ node k name s) × (name < 256)
     choose_none name i below =
-        let z = kind-node l f named k g plain h.fits.legal in
+        let z = kind_node l f named k g plain h.fits.legal in
         absurd (below z.0 z.1 (omega (arith, z.3)) (rw z.2 at h.fits))

@@ -18,7 +18,7 @@ use Rattle.format_translation.specs.Translation.{Translation}
 use Rattle.format_translation.specs.Running.{Clauses, clauses_of}
 use Rattle.search_sources.specs.Inner.Goals.{Goal, First, FirstAll, Matches}
 use Rattle.search_sources.specs.Inner.Levels.{NeedsNamed}
-use Rattle.search_sources.proofs.Answers.{cons-first, first-nil, needs-zero, node-first}
+use Rattle.search_sources.proofs.Answers.{cons_first, first_nil, needs_zero, node_first}
 use Rattle.search_sources.proofs.Tokens.{first_token}
 use Rattle.search_levels.specs.Inner.Setting.{Seeks, value_at}
 use Rattle.search_levels.proofs.Needing.{source_apart, the_range, value_for}
@@ -89,7 +89,7 @@ module _ (l : Language) (f : Clauses) (n : ℕ) (ks : List ℕ) (b : ℕ → Goa
     pub going_end : length ks ≤ j → Puts limit (write_all tree s) o after pos to
     unfolding write
     going_end h =
-        let e : w.rest ≡ nil = first-nil l f n (λ i. b (i + j)) w.rest (rw (drop_of_length-le ks {i = j} h) at w.first) in
+        let e : w.rest ≡ nil = first_nil l f n (λ i. b (i + j)) w.rest (rw (drop_of_length-le ks {i = j} h) at w.first) in
         puts_same (sym (w.is ∙ (ap (λ (r : Codes). w.done ++ write_all tree r) e ∙ append-nil w.done))) w.puts
 
     module _ (here : j < length ks) where
@@ -98,7 +98,7 @@ module _ (l : Language) (f : Clauses) (n : ℕ) (ks : List ℕ) (b : ℕ → Goa
 
       abbrev parts : (a : Code) × (r : Codes) × (w.rest ≡ cons a r) × First l f n (get_or ks j 0) (b (0 + j)) a
           × FirstAll l f n (drop (j + 1) ks) (λ i. b (suc i + j)) r
-      parts = cons-first l f n (get_or ks j 0) (drop (j + 1) ks) (λ i. b (i + j)) w.rest split
+      parts = cons_first l f n (get_or ks j 0) (drop (j + 1) ks) (λ i. b (i + j)) w.rest split
 
       pub going_first : {k : ℕ} → k ≡ get_or ks j 0 → First l f n k (b j) parts.0
       going_first {k} e =
@@ -132,7 +132,7 @@ module _ (table source target places kinds bytes memory free : List ℕ) (k at :
 
   pub no_levels : range_of f.source k ≡ none → (n : ℕ) → n ≡ 0 → (t : Code) → First f.source (clauses_of f) n k g t → ⊥
   no_levels plain n e t w =
-      let z = (needs-zero f.source (clauses_of f) h.setting.named k g plain).least 0 t (omega arith) (rw e at w.fits) in
+      let z = (needs_zero f.source (clauses_of f) h.setting.named k g plain).least 0 t (omega arith) (rw e at w.fits) in
       omega arith
 
   pub one_level : (n : ℕ) → (n ≡ 0 → ⊥) → (t : Code) → First f.source (clauses_of f) n k g t → First f.source (clauses_of f) (suc (n - 1)) k g t
@@ -155,4 +155,4 @@ unknown_none l f n k p g s q h = let z = q.least n p s (omega arith) (omega arit
 -- put_operands
 pub go_on : (l : Language) (f : Clauses) (k p : ℕ) (ks : List ℕ) (g : Goal) (b : ℕ → Goal) (n : ℕ) (s : Codes) → arguments_of l k p ≡ some ks
     → Matches l f k p ks g b → First l f (suc n) k g (node k p s) → FirstAll l f n ks b s
-go_on l f k p ks g b n s e m h = node-first l f k p ks g b e m n s h
+go_on l f k p ks g b n s e m h = node_first l f k p ks g b e m n s h

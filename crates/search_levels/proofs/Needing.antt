@@ -28,7 +28,7 @@ use Rattle.tree_index.proofs.Lying.{first_byte}
 use Rattle.search_sources.specs.Inner.Goals.{Goal, Fits, FitsAll}
 use Rattle.search_sources.specs.Inner.Levels.{Needs, NeedsAll, NeedsNamed, recalled, noted}
 use Rattle.search_sources.proofs.Memory.{recall_needs}
-use Rattle.search_sources.proofs.Answers.{cons-fits, needs-nil, needs-cons, needs-node, needs-unknown, needs-unmatched, fits_more, needs-zero, needs-kind}
+use Rattle.search_sources.proofs.Answers.{cons_fits, needs_nil, needs_cons, needs_node, needs_unknown, needs_unmatched, fits_more, needs_zero, needs_kind}
 use Rattle.search_sources.proofs.Tokens.{class_token, ValueFor, needs_token, needs_no_token}
 use Rattle.search_levels.specs.Inner.Setting.{Asked, Truthful, Unnamed, Without, Named, value_at, Seeks, SeeksAll}
 use Rattle.search_levels.specs.Inner.Clauses.{MatchAsks, MatchGives}
@@ -134,14 +134,14 @@ module _ (table source target places kinds bytes memory free : List ℕ) (k at :
   -- The names of any other kind.
   module _ (none_class : range_of l k ≡ none) (m : ℕ) where
     pub zero_levels : m ≡ 0 → Needs l clauses m k g 1
-    zero_levels e = rw e (needs-zero l clauses h.setting.named k g none_class)
+    zero_levels e = rw e (needs_zero l clauses h.setting.named k g none_class)
 
     pub all_names : (m ≡ 0 → ⊥) → (best : ℕ) (n : ℕ) → 256 ≤ n → n ≤ 256 → NeedsNamed l clauses (m - 1) k 0 n g best → Needs l clauses m k g (best + 1)
     all_names e best n x y q =
         let a : suc (m - 1) ≡ m = omega arith in
         let b : best + 1 ≡ suc best = omega arith in
         let c : n ≡ 256 = omega arith in
-        rw (← a, b) (needs-kind l clauses h.setting.named k g none_class (m - 1) best (rw c at q))
+        rw (← a, b) (needs_kind l clauses h.setting.named k g none_class (m - 1) best (rw c at q))
 
   pub without : (low high : ℕ) → high ≤ 256 → Unnamed table k low high → Without l clauses k g low high
   without low high narrow a = record { none = none_named }
@@ -149,7 +149,7 @@ module _ (table source target places kinds bytes memory free : List ℕ) (k at :
       none_named : (q x : ℕ) (s : Codes) → low ≤ q → q < high → Fits l clauses (suc x) k g (node k q s) → ⊥
       none_named q x s i j w =
           let e : arguments_of l k q ≡ none = h.setting.source_index.arguments k q h.kind (omega arith) ∙ ap (arguments_before source) (a.none q i j) in
-          let z = (needs-unknown l clauses x k q g e).least x q s (omega arith) (omega arith) (omega arith) w in
+          let z = (needs_unknown l clauses x k q g e).least x q s (omega arith) (omega arith) (omega arith) w in
           omega arith
 
   -- first_name
@@ -236,7 +236,7 @@ module _ (table source target places kinds bytes memory free : List ℕ) (k at :
 
     module _ (bound : List ℕ) (r : Bool) (w : MatchGives bytes bound r f k p ks g) where
       pub name_unmatched : (m : ℕ) → r ≡ false → NeedsNamed f.source (clauses_of f) m k p (suc p) g (m + 1)
-      name_unmatched m e = let a : m + 1 ≡ suc m = omega arith in rw a (needs-unmatched f.source (clauses_of f) m k p ks g known (w.fails e))
+      name_unmatched m e = let a : m + 1 ≡ suc m = omega arith in rw a (needs_unmatched f.source (clauses_of f) m k p ks g known (w.fails e))
 
       module _ (e : r ≡ true) where
         pub name_seeks : SeeksAll table source target places kinds bytes memory free bound place f ks (w.holds e).0
@@ -249,7 +249,7 @@ module _ (table source target places kinds bytes memory free : List ℕ) (k at :
         }
 
         pub name_needs : (m x : ℕ) → NeedsAll f.source (clauses_of f) m ks (w.holds e).0 x → NeedsNamed f.source (clauses_of f) m k p (suc p) g x
-        name_needs m x q = needs-node f.source (clauses_of f) k p ks g (w.holds e).0 known (w.holds e).2 m x q
+        name_needs m x q = needs_node f.source (clauses_of f) k p ks g (w.holds e).0 known (w.holds e).2 m x q
 
     -- candidate: the root of the clause is another.
     module _ (bound : List ℕ) (w : MatchGives bytes bound false f k p ks g) where
@@ -260,7 +260,7 @@ module _ (table source target places kinds bytes memory free : List ℕ) (k at :
           go : (q x : ℕ) (s : Codes) → from ≤ q → q < next → Fits f.source (clauses_of f) (suc x) k g (node k q s) → Dec (suc q ≤ p) → Dec (q ≤ p) → ⊥
           go q x s i o z (yes d) e = b.none q x s i d z
           go q x s i o z (no d) (yes e) =
-              let y = (needs-unmatched f.source (clauses_of f) x k p ks g known (w.fails refl)).least x q s (omega arith) (omega arith) (omega arith) z in
+              let y = (needs_unmatched f.source (clauses_of f) x k p ks g known (w.fails refl)).least x q s (omega arith) (omega arith) (omega arith) z in
               omega arith
           go q x s i o z (no d) (no e) =
               (without table source target places kinds bytes memory free k at f g h (p + 1) next few a).none q x s (omega arith) o z
@@ -299,7 +299,7 @@ module _ (table source target places kinds bytes memory free bound : List ℕ) (
 
 module _ (l : Language) (f : Clauses) (m : ℕ) (ks : List ℕ) (b : ℕ → Goal) where
   pub operands_start : (j : ℕ) → length ks ≤ j → NeedsAll l f m (drop j ks) (λ i. b (i + j)) 0
-  operands_start j h = rw (drop_of_length-le ks {i = j} h) (needs-nil l f m (λ i. b (i + j)))
+  operands_start j h = rw (drop_of_length-le ks {i = j} h) (needs_nil l f m (λ i. b (i + j)))
 
   pub operands_next : (j k x y r : ℕ) → 0 < j → j ≤ length ks → k ≡ get_or ks (j - 1) 0 → Needs l f m k (b (j - 1)) x
       → NeedsAll l f m (drop j ks) (λ i. b (i + j)) y → r ≡ max x y → NeedsAll l f m (drop (j - 1) ks) (λ i. b (i + (j - 1))) r
@@ -309,7 +309,7 @@ module _ (l : Language) (f : Clauses) (m : ℕ) (ks : List ℕ) (b : ℕ → Goa
       front ks (j - 1) (omega arith) ∙ ((λ i. e' i ∷ drop (z i) ks)) in
       let tail : NeedsAll l f m (drop j ks) (λ i. b (suc i + (j - 1))) y = subst (λ (w : ℕ → Goal). NeedsAll l f m (drop j ks) w y) (λ t i. b (shift i t)) c in
       let head : Needs l f m k (b (0 + (j - 1))) x = subst (λ (n : ℕ). Needs l f m k (b n) x) (first (j - 1)) a in
-      rw (d, parts) (needs-cons l f m k (drop j ks) (λ i. b (i + (j - 1))) x y head tail)
+      rw (d, parts) (needs_cons l f m k (drop j ks) (λ i. b (i + (j - 1))) x y head tail)
     where
       e' : get_or ks (j - 1) 0 ≡ k
       e' = sym e
@@ -330,8 +330,8 @@ module _ (l : Language) (f : Clauses) (m : ℕ) (ks : List ℕ) (b : ℕ → Goa
     where
       all_at : (n : ℕ) (ks : List ℕ) (b : ℕ → Goal) (t : Codes) → FitsAll l f n ks b t → (j : ℕ) → j < length ks → (a : Code) × Fits l f n (get_or ks j 0) (b j) a
       all_at n [] b t w j q = absurd (omega arith)
-      all_at n (k ∷ ks) b t w zero q = let z = cons-fits l f n k ks b t w in (z.0, z.3)
-      all_at n (k ∷ ks) b t w (suc j) q = let z = cons-fits l f n k ks b t w in all_at n ks (λ i. b (suc i)) z.1 z.4 j (omega arith)
+      all_at n (k ∷ ks) b t w zero q = let z = cons_fits l f n k ks b t w in (z.0, z.3)
+      all_at n (k ∷ ks) b t w (suc j) q = let z = cons_fits l f n k ks b t w in all_at n ks (λ i. b (suc i)) z.1 z.4 j (omega arith)
 
   pub operands_end : (j y : ℕ) → j ≡ 0 → NeedsAll l f m (drop j ks) (λ i. b (i + j)) y → NeedsAll l f m ks b y
   operands_end j y e q =

@@ -356,7 +356,7 @@ pub tells : (d : Editing) (plan index : List ℕ) (r : Edited) → Hands d plan 
     → EditTold d n m r.indexed plan index
 tells d plan index r w n m en em = record {
   number_is = en ∙ ap number_of w.outcome;
-  plan-long = em ∙ ap length_of w.outcome;
+  plan_long = em ∙ ap length_of w.outcome;
   index_long = w.long;
   plan_is = w.plan_is;
   index_is = w.index_is;

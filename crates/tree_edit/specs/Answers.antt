@@ -12,9 +12,9 @@ pub record Hands (d : Editing) (plan index : List ℕ) (r : Edited) : Type 0 whe
   pub index_is : index ≡ d.index
 
 -- The same, told by numbers.
-pub record EditTold (d : Editing) (number planLength index_length : ℕ) (plan index : List ℕ) : Type 0 where
+pub record EditTold (d : Editing) (number plan_length index_length : ℕ) (plan index : List ℕ) : Type 0 where
   pub number_is : number ≡ number_of d.outcome
-  pub plan-long : planLength ≡ length_of d.outcome
+  pub plan_long : plan_length ≡ length_of d.outcome
   pub index_long : index_length ≡ d.index_length
   pub plan_is : plan ≡ d.plan
   pub index_is : index ≡ d.index

@@ -58,6 +58,6 @@ handed_back plan index (value t) = record {
 handed_back plan index (refused r) = record { outcome = Refused r; index_length = 0; plan = plan; index = index }
 
 -- The edit, with the outputs as they are lent.
-unfoldable pub edit_tree : (language : List ℕ) (root : ℕ) (bytes index path card block plan planIndex : List ℕ) → Editing
-edit_tree language root bytes index path card block plan planIndex =
-    handed_back plan planIndex (edit_plan language root bytes index path card block >>= λ t. in_rooms (length plan) (length planIndex) t)
+unfoldable pub edit_tree : (language : List ℕ) (root : ℕ) (bytes index path card block plan plan_index : List ℕ) → Editing
+edit_tree language root bytes index path card block plan plan_index =
+    handed_back plan plan_index (edit_plan language root bytes index path card block >>= λ t. in_rooms (length plan) (length plan_index) t)

@@ -37,9 +37,9 @@ module _ (b : List ℕ) (o : Stop) {w : Walk} where
   unfolding place_at place_of
   fault_past {e} ew h n = absurd (n (drop e b) (past_of b o (drop e b) (sym (ap (place_at b) ew) ∙ h)))
 
-  pub fault-stopped : {p : ℕ} → w ≡ Stopped p → place_at b w ≡ place_of b o → p ≡ stop_position b o
+  pub fault_stopped : {p : ℕ} → w ≡ Stopped p → place_at b w ≡ place_of b o → p ≡ stop_position b o
   unfolding place_at place_of
-  fault-stopped {p} ew h = go o (sym (ap (place_at b) ew) ∙ h)
+  fault_stopped {p} ew h = go o (sym (ap (place_at b) ew) ∙ h)
     where
       go : (o : Stop) → stopped p ≡ place_of b o → p ≡ stop_position b o
       go (passes s) e = let z : ◌≡◌ {A = ℕ} 0 1 = cc in absurd (omega arith)
@@ -48,17 +48,17 @@ module _ (b : List ℕ) (o : Stop) {w : Walk} where
       go (deep s) e = cc
 
 -- What is left tells the stop.
-pub passes-by : (o : Stop) (u : List ℕ) → rest_by o ≡ rest u → o ≡ passes u
-passes-by (passes s) u e = cc
-passes-by ends u e = let z : ◌≡◌ {A = ℕ} 0 1 = cc in absurd (omega arith)
-passes-by (unfit s) u e = let z : ◌≡◌ {A = ℕ} 0 1 = cc in absurd (omega arith)
-passes-by (deep s) u e = let z : ◌≡◌ {A = ℕ} 0 1 = cc in absurd (omega arith)
+pub passes_by : (o : Stop) (u : List ℕ) → rest_by o ≡ rest u → o ≡ passes u
+passes_by (passes s) u e = cc
+passes_by ends u e = let z : ◌≡◌ {A = ℕ} 0 1 = cc in absurd (omega arith)
+passes_by (unfit s) u e = let z : ◌≡◌ {A = ℕ} 0 1 = cc in absurd (omega arith)
+passes_by (deep s) u e = let z : ◌≡◌ {A = ℕ} 0 1 = cc in absurd (omega arith)
 
-deep-by : (o : Stop) → rest_by o ≡ Left.deep → NotPast o
-deep-by o e s h = let z : ◌≡◌ {A = ℕ} 0 1 = cc in omega arith
+deep_by : (o : Stop) → rest_by o ≡ Left.deep → NotPast o
+deep_by o e s h = let z : ◌≡◌ {A = ℕ} 0 1 = cc in omega arith
 
-broken-by : (o : Stop) → rest_by o ≡ Left.broken → NotPast o
-broken-by o e s h = let z : ◌≡◌ {A = ℕ} 0 1 = cc in omega arith
+broken_by : (o : Stop) → rest_by o ≡ Left.broken → NotPast o
+broken_by o e s h = let z : ◌≡◌ {A = ℕ} 0 1 = cc in omega arith
 
 -- locate_in
 module _ (l : Language) (k : ℕ) (b : List ℕ) (f : Read) (er : rest_at b f ≡ rest_of (Meant.read Meant.tree l [] tree_levels k b)) (r : Located) where
@@ -68,70 +68,70 @@ module _ (l : Language) (k : ℕ) (b : List ℕ) (f : Read) (er : rest_at b f �
   abbrev halt : Stop
   halt = stop l tree_levels k b
 
-  left-same : rest_by halt ≡ rest_at b f
-  left-same = stop_agrees l tree_levels k b ∙ sym er
+  left_same : rest_by halt ≡ rest_at b f
+  left_same = stop_agrees l tree_levels k b ∙ sym er
 
   module _ (e : ℕ) (ef : f ≡ End e) where
-    read-to : (t : Code) × (reading ≡ Meant.done t (drop e b))
-    read-to = done_of reading (drop e b) (sym er ∙ ap (rest_at b) ef)
+    read_to : (t : Code) × (reading ≡ Meant.done t (drop e b))
+    read_to = done_of reading (drop e b) (sym er ∙ ap (rest_at b) ef)
 
-    halt-to : halt ≡ passes (drop e b)
-    halt-to = passes-by halt (drop e b) (left-same ∙ ap (rest_at b) ef)
+    halt_to : halt ≡ passes (drop e b)
+    halt_to = passes_by halt (drop e b) (left_same ∙ ap (rest_at b) ef)
 
-    pub answer-leftover : EndsBy (length b) f → (e ≡ length b → ⊥) → r.outcome ≡ Refused IllegalTree → r.position ≡ e → Answers b reading halt r
-    answer-leftover w h i j =
+    pub answer_leftover : EndsBy (length b) f → (e ≡ length b → ⊥) → r.outcome ≡ Refused IllegalTree → r.position ≡ e → Answers b reading halt r
+    answer_leftover w h i j =
         let v : e ≤ length b = rw ef at w in
         let m : e < length b = omega arith in
         let c = front b e m in
-        let x : checked (whole_tree reading) ≡ Refused IllegalTree = ap (λ (g : Meant.Read Code). checked (whole_tree g)) (read-to.1 ∙ ap (Meant.done read-to.0) c) in
-        let y : stop_position b halt ≡ position_of b (drop e b) = ap (stop_position b) (halt-to ∙ ap passes c) ∙ ap (position_of b) (sym c) in
+        let x : checked (whole_tree reading) ≡ Refused IllegalTree = ap (λ (g : Meant.Read Code). checked (whole_tree g)) (read_to.1 ∙ ap (Meant.done read_to.0) c) in
+        let y : stop_position b halt ≡ position_of b (drop e b) = ap (stop_position b) (halt_to ∙ ap passes c) ∙ ap (position_of b) (sym c) in
         record { outcome = i ∙ sym x; position = j ∙ sym (y ∙ position_is b e v) }
 
-    pub answer-whole : e ≡ length b → r.outcome ≡ Accepted 0 → r.position ≡ 0 → Answers b reading halt r
-    answer-whole h i j =
+    pub answer_whole : e ≡ length b → r.outcome ≡ Accepted 0 → r.position ≡ 0 → Answers b reading halt r
+    answer_whole h i j =
         let m : length b ≤ e = omega arith in
         let c = drop_of_length-le b {i = e} m in
         record {
-          outcome = i ∙ sym (ap (λ (g : Meant.Read Code). checked (whole_tree g)) (read-to.1 ∙ ap (Meant.done read-to.0) c));
-          position = j ∙ sym (ap (stop_position b) (halt-to ∙ ap passes c));
+          outcome = i ∙ sym (ap (λ (g : Meant.Read Code). checked (whole_tree g)) (read_to.1 ∙ ap (Meant.done read_to.0) c));
+          position = j ∙ sym (ap (stop_position b) (halt_to ∙ ap passes c));
         }
 
-  deep-not-past : f ≡ Deep → NotPast halt
-  deep-not-past h = deep-by halt (left-same ∙ ap (rest_at b) h)
+  deep_not_past : f ≡ Deep → NotPast halt
+  deep_not_past h = deep_by halt (left_same ∙ ap (rest_at b) h)
 
-  pub answer-deep : f ≡ Deep → {p : ℕ} → r.outcome ≡ Refused TooDeep → r.position ≡ p → (NotPast halt → p ≡ stop_position b halt) → Answers b reading halt r
-  answer-deep h i j e = record {
+  pub answer_deep : f ≡ Deep → {p : ℕ} → r.outcome ≡ Refused TooDeep → r.position ≡ p → (NotPast halt → p ≡ stop_position b halt) → Answers b reading halt r
+  answer_deep h i j e = record {
     outcome = i ∙ sym (ap (λ (g : Meant.Read Code). checked (whole_tree g)) (deep_of reading (sym er ∙ ap (rest_at b) h)));
-    position = j ∙ e (deep-not-past h);
+    position = j ∙ e (deep_not_past h);
   }
 
-  broken-not-past : f ≡ Broken → NotPast halt
-  broken-not-past h = broken-by halt (left-same ∙ ap (rest_at b) h)
+  broken_not_past : f ≡ Broken → NotPast halt
+  broken_not_past h = broken_by halt (left_same ∙ ap (rest_at b) h)
 
-  pub answer-broken : f ≡ Broken → {p : ℕ} → r.outcome ≡ Refused IllegalTree → r.position ≡ p → (NotPast halt → p ≡ stop_position b halt) → Answers b reading halt r
-  answer-broken h i j e = record {
+  pub answer_broken : f ≡ Broken → {p : ℕ} → r.outcome ≡ Refused IllegalTree → r.position ≡ p → (NotPast halt → p ≡ stop_position b halt) → Answers b reading halt r
+  answer_broken h i j e = record {
     outcome = i ∙ sym (ap (λ (g : Meant.Read Code). checked (whole_tree g)) (broken_of reading (sym er ∙ ap (rest_at b) h)));
-    position = j ∙ e (broken-not-past h);
+    position = j ∙ e (broken_not_past h);
   }
 
 -- locate
 module _ (s : List ℕ) (root : ℕ) (b : List ℕ) where
   -- The position by the language that is opened with its root.
-  told-by : (locate_tree s root b).position ≡ told_position (rooted_of s root >>= λ l. value (stop_position b (stop l tree_levels root b)))
+  told_by : (locate_tree s root b).position ≡ told_position (rooted_of s root >>= λ l. value (stop_position b (stop l tree_levels root b)))
   unfolding locate_tree stop_of
-  told-by = ap told_position (rooted_steps s root (λ l. value (stop_position b (stop l tree_levels root b))))
+  told_by = ap told_position (rooted_steps s root (λ l. value (stop_position b (stop l tree_levels root b))))
 
-  pub located-refused : {o : Outcome} {x : Reason} (r : Located) → o ≡ checked (rooted_of s root) → o ≡ Refused x → r.outcome ≡ Refused x → r.position ≡ 0
+  pub located_refused : {o : Outcome} {x : Reason} (r : Located) → o ≡ checked (rooted_of s root) → o ≡ Refused x → r.outcome ≡ Refused x → r.position ≡ 0
       → (r.outcome ≡ (locate_tree s root b).outcome) × (r.position ≡ (locate_tree s root b).position)
   unfolding locate_tree
-  located-refused r eo h i j =
-      (tree_refused s root b eo h i, j ∙ sym (told-by ∙ ap (λ (m : Result Language). told_position (m >>= λ l. value (stop_position b (stop l tree_levels root b)))) (opened_not s root eo h)))
+  located_refused r eo h i j =
+      (tree_refused s root b eo h i, j ∙ sym (told_by ∙ ap (λ (m : Result Language). told_position (m >>= λ l. value (stop_position b (stop l tree_levels root b)))) (opened_not s root eo h)))
 
-  pub located-read : (l : Language) → rooted_of s root ≡ value l → (r : Located)
+  pub located_read : (l : Language) → rooted_of s root ≡ value l → (r : Located)
       → Answers b (Meant.read Meant.tree l [] tree_levels root b) (stop l tree_levels root b) r
       → (r.outcome ≡ (locate_tree s root b).outcome) × (r.position ≡ (locate_tree s root b).position)
   unfolding locate_tree check_tree
-  located-read l e r a = (
+  located_read l e r a = (
     a.outcome ∙ sym (ap checked (rooted_tree s root b ∙ ap (λ (m : Result Language). m >>= λ l. whole_tree (Meant.read Meant.tree l [] tree_levels root b)) e)),
-    a.position ∙ sym (told-by ∙ ap (λ (m : Result Language). told_position (m >>= λ l. value (stop_position b (stop l tree_levels root b)))) e),
+    a.position ∙ sym (told_by ∙ ap (λ (m : Result Language). told_position (m >>= λ l. value (stop_position b (stop l tree_levels root b)))) e),
   )

@@ -27,7 +27,7 @@ use Rattle.tree_locate.specs.Faults.{Stop, passes, ends, unfit, deep, stop}
 use Rattle.tree_locate.specs.Operations.{position_of, stop_position, stop_of, told_position, locate_tree}
 use Rattle.tree_locate.specs.Laws.{Agrees, StopsAsRead, Begins, cut_at, DecidedBy, Because, whole, leftover, ended, unknown, out_of_range, too_deep_lem, PositionsHaveReasons, UnreadIsZero}
 use Rattle.tree_locate.proofs.Agreement.{rest_by, stop_agrees}
-use Rattle.tree_locate.proofs.Answers.{passes-by}
+use Rattle.tree_locate.proofs.Answers.{passes_by}
 use Rattle.tree_locate.proofs.Local.{Cut, Local, by_tree, by_node, by_level, by_end, stop_local}
 
 agrees : (o : Stop) (g : Read Code) → rest_by o ≡ rest_of g → Agrees o g
@@ -94,7 +94,7 @@ module _ (language : List ℕ) (root : ℕ) (l : Language) (is : language_of lan
       let e : read tree l [] tree_levels root (write tree w.subject) ≡ done w.subject [] =
       ap (read tree l [] tree_levels root) (sym (append-nil (write tree w.subject)))
       ∙ round l (apart l (language_facts language l is).1) w.typed as_tree tree_levels [] w.within in
-      passes-by (stops (b ++ w.behind)) [] (stop_agrees l tree_levels root (b ++ w.behind) ∙ ap rest_of (ap (read tree l [] tree_levels root) (sym w.is) ∙ e))
+      passes_by (stops (b ++ w.behind)) [] (stop_agrees l tree_levels root (b ++ w.behind) ∙ ap rest_of (ap (read tree l [] tree_levels root) (sym w.is) ∙ e))
 
   never_by : (b : List ℕ) → ((v : List ℕ) → stops (b ++ v) ≡ passes [] → ⊥) → Begins l root b → ⊥
   never_by b h w = h w.behind (passes_legal b w)

@@ -43,11 +43,11 @@ result l card k room p = whole_tree p >>= λ t. fitted room (masked l card k t)
 -- mask_legal
 module _ (s index : List ℕ) (kinds k : ℕ) (b o : List ℕ) {out : Outcome} where
   module _ {o₁ o₂ : List ℕ} {m : ℕ} (counted : MasksWhole s index kinds k b o₁ o₂ m) where
-    pub legal-long : length o < m → out ≡ Refused Why.OutputTooShort → GivesLegal s index kinds k b o o out
-    legal-long h i l card t z c e = let y = counted l card t z c e in gives_long (masked l card k t) o (omega (arith, y.end)) i
+    pub legal_long : length o < m → out ≡ Refused Why.OutputTooShort → GivesLegal s index kinds k b o o out
+    legal_long h i l card t z c e = let y = counted l card t z c e in gives_long (masked l card k t) o (omega (arith, y.end)) i
 
-    pub legal-done : {o' : List ℕ} {n : ℕ} → m ≤ length o → MasksWhole s index kinds k b o o' n → out ≡ Accepted m → GivesLegal s index kinds k b o o' out
-    legal-done {o'} h w i l card t z c e =
+    pub legal_done : {o' : List ℕ} {n : ℕ} → m ≤ length o → MasksWhole s index kinds k b o o' n → out ≡ Accepted m → GivesLegal s index kinds k b o o' out
+    legal_done {o'} h w i l card t z c e =
         let x = counted l card t z c e in
         let y = w l card t z c e in
         gives_fit (masked l card k t) o o' (omega (arith, x.end)) (i ∙ ap Accepted (x.end ∙ omega arith)) (y.bytes (omega (arith, x.end, y.end)))
@@ -57,15 +57,15 @@ module _ (s index : List ℕ) (kinds k : ℕ) (b o : List ℕ) {out : Outcome} w
       let y = w l card t z c e in
       let d = (read_done tree l [] tree_levels k b t [] e).2 (bytes_from b (λ j q. bytes j)) in
       let n = ap length d.0 ∙ length-append (write tree t) [] in
-      legal-done w (omega (arith, y.end, n, masked_few l card k t)) w i l card t z c e
+      legal_done w (omega (arith, y.end, n, masked_few l card k t)) w i l card t z c e
 
 -- mask_read
 module _ (s index : List ℕ) (kinds k : ℕ) (b o : List ℕ) (f : At.Read) (is : (l : Language) → Indexed index s l → rest_at b f ≡ rest_of (read tree l [] tree_levels k b)) where
   pub read_deep : {out : Outcome} → f ≡ Deep → out ≡ Refused Why.TooDeep → GivesTree s index kinds k b o o out
   read_deep h i l card z c = gives_refused _ o Why.TooDeep (ap (result l card k (length o)) (deep_of (read tree l [] tree_levels k b) (sym (is l z) ∙ ap (rest_at b) h))) i
 
-  pub read-broken : {out : Outcome} → f ≡ Broken → out ≡ Refused Why.IllegalTree → GivesTree s index kinds k b o o out
-  read-broken h i l card z c = gives_refused _ o Why.IllegalTree (ap (result l card k (length o)) (broken_of (read tree l [] tree_levels k b) (sym (is l z) ∙ ap (rest_at b) h))) i
+  pub read_broken : {out : Outcome} → f ≡ Broken → out ≡ Refused Why.IllegalTree → GivesTree s index kinds k b o o out
+  read_broken h i l card z c = gives_refused _ o Why.IllegalTree (ap (result l card k (length o)) (broken_of (read tree l [] tree_levels k b) (sym (is l z) ∙ ap (rest_at b) h))) i
 
   module _ {e : ℕ} (ef : f ≡ End e) where
     found : (l : Language) → Indexed index s l → (a : Code) × (read tree l [] tree_levels k b ≡ done a (drop e b))
@@ -89,8 +89,8 @@ abbrev pub AsMask : List ℕ → ℕ → List ℕ → List ℕ → List ℕ → 
 AsMask s root c b o o' out = (out ≡ (mask_tree s root c b o).outcome) × (o' ≡ (mask_tree s root c b o).output)
 
 -- A root is refused by 14.
-root-high : (root : ℕ) (l : Language) (p : Reason) → root_in root l ≡ refused p → 3 < reason_number p
-root-high root l p e = go (not (is_in l root)) e
+root_high : (root : ℕ) (l : Language) (p : Reason) → root_in root l ≡ refused p → 3 < reason_number p
+root_high root l p e = go (not (is_in l root)) e
   where
     go : (t : Bool) → refuse_if t Why.UnknownRoot (value l) ≡ refused p → 3 < reason_number p
     go true h = rw (← same_refusal {A = Language} h) (omega arith)
@@ -113,15 +113,15 @@ module _ (s : List ℕ) (root : ℕ) (c : List ℕ) {on-language on-card low : O
       record { language = o.0; is = o.1; card = v.0; card_is = v.1 }
 
   module _ (b o : List ℕ) {out : Outcome} where
-    pub mask-refused : {r : Reason} → low ≡ Refused r → out ≡ Refused r → AsMask s root c b o o out
+    pub mask_refused : {r : Reason} → low ≡ Refused r → out ≡ Refused r → AsMask s root c b o o out
     unfolding mask_tree mask_bytes rooted_of
-    mask-refused {r} h i =
+    mask_refused {r} h i =
         let e : lowest_of (checked (rooted_of s root)) (checked (card_of c)) ≡ Refused r = rw (el, ec) at (sym elow ∙ h) in
         let f : Card → Language → Code → Result (List ℕ) = λ card l t. fitted (length o) (masked l card root t) in
         let same : mask_bytes s root c b (length o) ≡ together (language_of s) (card_of c) (λ l card. root_in root l >>= λ l. whole_tree (read tree l [] tree_levels root b) >>= f card l) =
         λ j. together (language_of s) (card_of c) (λ l card. tree_then root l b (f card) j) in
         gives_refused (mask_bytes s root c b (length o)) o r
-        (same ∙ together_refused (root_in root) (root-high root) (λ k card l. whole_tree (read tree l [] tree_levels root b) >>= f card l) c (language_of s) e) i
+        (same ∙ together_refused (root_in root) (root_high root) (λ k card l. whole_tree (read tree l [] tree_levels root b) >>= f card l) c (language_of s) e) i
 
     pub mask_done : {n : ℕ} → low ≡ Accepted n → (index : List ℕ) → ((l : Language) → rooted_of s root ≡ value l → Opened s index root l)
         → (kinds : ℕ) → ((card : Card) → card_of c ≡ value card → Holds kinds card)

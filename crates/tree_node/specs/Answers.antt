@@ -16,4 +16,4 @@ pub record NodeTold (d : NodeShown) (number kind name arguments : ℕ) : Type 0 
   pub number_is : number ≡ number_of d.outcome
   pub kind_is : kind ≡ d.kind
   pub name_is : name ≡ d.name
-  pub arguments-is : arguments ≡ d.arguments
+  pub arguments_is : arguments ≡ d.arguments

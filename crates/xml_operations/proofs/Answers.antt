@@ -34,30 +34,30 @@ use Rattle.xml_operations.specs.Inner.Answering.{GivesTree}
 
 -- One tree, read as the only one of some.
 module _ (l : Language) (k : ℕ) (b : List ℕ) (levels : ℕ) where
-  one-text : (a : Code) → export_all l (k ∷ []) (cons a nil) ≡ export l k a
+  one_text : (a : Code) → export_all l (k ∷ []) (cons a nil) ≡ export l k a
   unfolding export_all
-  one-text a = append-nil (export l k a)
+  one_text a = append-nil (export l k a)
 
-  one-deep : (p : Read Code) → (and_then p λ a r. done (cons a nil) r) ≡ deep → p ≡ deep
-  one-deep (done a r) e = deep_not (sym e)
-  one-deep deep e = refl
-  one-deep broken e = deep_not {a = tt} {r = []} (let z : ◌≡◌ {A = Read (Unit {0})} deep (done tt []) = cc in z)
+  one_deep : (p : Read Code) → (and_then p λ a r. done (cons a nil) r) ≡ deep → p ≡ deep
+  one_deep (done a r) e = deep_not (sym e)
+  one_deep deep e = refl
+  one_deep broken e = deep_not {a = tt} {r = []} (let z : ◌≡◌ {A = Read (Unit {0})} deep (done tt []) = cc in z)
 
-  one-broken : (p : Read Code) → (and_then p λ a r. done (cons a nil) r) ≡ broken → p ≡ broken
-  one-broken (done a r) e = broken_not (sym e)
-  one-broken deep e = deep_not {a = tt} {r = []} (let z : ◌≡◌ {A = Read (Unit {0})} deep (done tt []) = cc in z)
-  one-broken broken e = refl
+  one_broken : (p : Read Code) → (and_then p λ a r. done (cons a nil) r) ≡ broken → p ≡ broken
+  one_broken (done a r) e = broken_not (sym e)
+  one_broken deep e = deep_not {a = tt} {r = []} (let z : ◌≡◌ {A = Read (Unit {0})} deep (done tt []) = cc in z)
+  one_broken broken e = refl
 
-  one-read : read_all (read tree l [] levels) (k ∷ []) b ≡ (and_then (read tree l [] levels k b) λ a r. done (cons a nil) r)
+  one_read : read_all (read tree l [] levels) (k ∷ []) b ≡ (and_then (read tree l [] levels k b) λ a r. done (cons a nil) r)
   unfolding read_all
-  one-read = refl
+  one_read = refl
 
-  one-done : (t : Codes) (r : List ℕ) → read_all (read tree l [] levels) (k ∷ []) b ≡ done t r
+  one_done : (t : Codes) (r : List ℕ) → read_all (read tree l [] levels) (k ∷ []) b ≡ done t r
       → (a : Code) × (read tree l [] levels k b ≡ done a r) × (export_all l (k ∷ []) t ≡ export l k a)
-  one-done t r e =
-      let d = then_done (read tree l [] levels k b) (λ a r. done (cons a nil) r) t r (sym one-read ∙ e) in
+  one_done t r e =
+      let d = then_done (read tree l [] levels k b) (λ a r. done (cons a nil) r) t r (sym one_read ∙ e) in
       let v = same_done (cons d.0 nil) t d.1 r d.3 in
-      (d.0, d.2 ∙ ap (done d.0) v.1, ap (export_all l (k ∷ [])) (sym v.0) ∙ one-text d.0)
+      (d.0, d.2 ∙ ap (done d.0) v.1, ap (export_all l (k ∷ [])) (sym v.0) ∙ one_text d.0)
 
 -- What a reading comes to, with so much room.
 abbrev result : Language → ℕ → ℕ → Read Code → Result (List ℕ)
@@ -67,21 +67,21 @@ result l k room p = whole_tree p >>= λ t. fitted room (export l k t)
 module _ (s index : List ℕ) (k : ℕ) (b o : List ℕ) {x : Measured} (first : MeasuresTrees (k ∷ []) s index 0 1 b 0 tree_levels 0 x) where
   pub tree_deep : {out : Outcome} → x ≡ Deep → out ≡ Refused Why.TooDeep → GivesTree s index k b o o out
   tree_deep h i l z =
-      let e = one-deep l k b tree_levels (read tree l [] tree_levels k b) (sym (one-read l k b tree_levels) ∙ (first l z).deep h) in
+      let e = one_deep l k b tree_levels (read tree l [] tree_levels k b) (sym (one_read l k b tree_levels) ∙ (first l z).deep h) in
       gives_refused _ o Why.TooDeep (ap (result l k (length o)) e) i
 
   pub tree_broken : {out : Outcome} → x ≡ Broken → out ≡ Refused Why.IllegalTree → GivesTree s index k b o o out
   tree_broken h i l z =
-      let e = one-broken l k b tree_levels (read tree l [] tree_levels k b) (sym (one-read l k b tree_levels) ∙ (first l z).broken h) in
+      let e = one_broken l k b tree_levels (read tree l [] tree_levels k b) (sym (one_read l k b tree_levels) ∙ (first l z).broken h) in
       gives_refused _ o Why.IllegalTree (ap (result l k (length o)) e) i
 
   module _ {e m : ℕ} (ex : x ≡ End e m) (inside : Within b x) where
     found : (l : Language) (z : Indexed index s l)
         → (a : Code) × (read tree l [] tree_levels k b ≡ done a (drop e b)) × (export_all l (k ∷ []) ((first l z).found e m ex).0 ≡ export l k a)
-    found l z = one-done l k b tree_levels ((first l z).found e m ex).0 (drop e b) ((first l z).found e m ex).1
+    found l z = one_done l k b tree_levels ((first l z).found e m ex).0 (drop e b) ((first l z).found e m ex).1
 
-    pub tree-left : {out : Outcome} → (e ≡ length b → ⊥) → out ≡ Refused Why.IllegalTree → GivesTree s index k b o o out
-    tree-left h i l z =
+    pub tree_left : {out : Outcome} → (e ≡ length b → ⊥) → out ≡ Refused Why.IllegalTree → GivesTree s index k b o o out
+    tree_left h i l z =
         let f = found l z in
         let j = inside e m ex in
         let g : e < length b = omega arith in
@@ -130,10 +130,10 @@ module _ (s : List ℕ) (root : ℕ) (b o : List ℕ) where
   by_root = rooted_tree_then s root b (λ l t. fitted (length o) (export l root t))
 
   module _ {out : Outcome} where
-    pub export-refused : {r : Reason} → rooted_of s root ≡ refused r → out ≡ Refused r → AsExport s root b o o out
+    pub export_refused : {r : Reason} → rooted_of s root ≡ refused r → out ≡ Refused r → AsExport s root b o o out
     unfolding export_tree
-    export-refused {r} e i = gives_refused (export_text s root b (length o)) o r (by_root ∙ rw e refl) i
+    export_refused {r} e i = gives_refused (export_text s root b (length o)) o r (by_root ∙ rw e refl) i
 
-    pub export-done : (l : Language) → rooted_of s root ≡ value l → (index o' : List ℕ) → Indexed index s l → GivesTree s index root b o o' out → AsExport s root b o o' out
+    pub export_done : (l : Language) → rooted_of s root ≡ value l → (index o' : List ℕ) → Indexed index s l → GivesTree s index root b o o' out → AsExport s root b o o' out
     unfolding export_tree
-    export-done l e index o' z g = gives_same (export_text s root b (length o)) (result l root (length o) (read tree l [] tree_levels root b)) o o' (by_root ∙ rw e refl) (g l z)
+    export_done l e index o' z g = gives_same (export_text s root b (length o)) (result l root (length o) (read tree l [] tree_levels root b)) o o' (by_root ∙ rw e refl) (g l z)

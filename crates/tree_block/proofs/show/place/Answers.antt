@@ -1,20 +1,20 @@
 use mathlib.Core.Path.{refl}
 use native.Mathlib.Omega.{arith}
 use Rattle.tree_reader.proofs.Lookup.{zeros}
-use Rattle.tree_block.proofs.Answers.{place-refused, owned, root_small, tree-along, place_found}
+use Rattle.tree_block.proofs.Answers.{place_refused, owned, root_small, tree_along, place_found}
 use Rattle.tree_block.proofs.show.place.Goals as goal
 
 pub check_own-answer-requires : goal.check_own-answer-requires
 check_own-answer-requires c = (refl, zeros 8224)
 
 pub returns-in-Refused : goal.returns-in-Refused
-returns-in-Refused c = place-refused _ _ _ _ c.check_own-answer.ensures.0 _ c.in-Refused.is _ c.nothing.ensures
+returns-in-Refused c = place_refused _ _ _ _ c.check_own-answer.ensures.0 _ c.in-Refused.is _ c.nothing.ensures
 
 pub overflow_cast-root : goal.overflow_cast-root
 overflow_cast-root c = omega (arith, root_small _ _ _ _ c.check_own-answer.ensures.0 c.in_default.is)
 
 pub place_in-requires : goal.place_in-requires
-place_in-requires c = ((owned _ _ _ _ c.check_own-answer.ensures.0 c.in_default.is).language, (owned _ _ _ _ c.check_own-answer.ensures.0 c.in_default.is).subject, (tree-along _ _ _ _ c.check_own-answer.ensures.0 c.in_default.is _ (λ j. omega (arith, c.type_inv.tree j)) c.check_own-answer.ensures.1))
+place_in-requires c = ((owned _ _ _ _ c.check_own-answer.ensures.0 c.in_default.is).language, (owned _ _ _ _ c.check_own-answer.ensures.0 c.in_default.is).subject, (tree_along _ _ _ _ c.check_own-answer.ensures.0 c.in_default.is _ (λ j. omega (arith, c.type_inv.tree j)) c.check_own-answer.ensures.1))
 
 pub returns : goal.returns
-returns c = place_found _ _ _ _ c.check_own-answer.ensures.0 c.in_default.is _ (λ j. omega (arith, c.type_inv.tree j)) c.check_own-answer.ensures.1 _ _ (c.place_in.ensures _ _ (tree-along _ _ _ _ c.check_own-answer.ensures.0 c.in_default.is _ (λ j. omega (arith, c.type_inv.tree j)) c.check_own-answer.ensures.1))
+returns c = place_found _ _ _ _ c.check_own-answer.ensures.0 c.in_default.is _ (λ j. omega (arith, c.type_inv.tree j)) c.check_own-answer.ensures.1 _ _ (c.place_in.ensures _ _ (tree_along _ _ _ _ c.check_own-answer.ensures.0 c.in_default.is _ (λ j. omega (arith, c.type_inv.tree j)) c.check_own-answer.ensures.1))

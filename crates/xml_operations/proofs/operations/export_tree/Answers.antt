@@ -1,10 +1,10 @@
 use mathlib.Core.Path.{◌≡◌}
 use native.Mathlib.Omega.{arith}
-use Rattle.xml_operations.proofs.Answers.{tree-left, tree_long, tree_asks, tree_done, tree_deep, tree_broken}
+use Rattle.xml_operations.proofs.Answers.{tree_left, tree_long, tree_asks, tree_done, tree_deep, tree_broken}
 use Rattle.xml_operations.proofs.operations.export_tree.Goals as goal
 
 pub returns-then-e-tree : goal.returns-then-e-tree
-returns-then-e-tree c = tree-left _ _ _ _ _ c.measure_all.ensures.1 c.in-End.is c.measure_all.ensures.0 c.if-e-tree.true c.refuse.ensures
+returns-then-e-tree c = tree_left _ _ _ _ _ c.measure_all.ensures.1 c.in-End.is c.measure_all.ensures.0 c.if-e-tree.true c.refuse.ensures
 
 pub returns-then-output-length : goal.returns-then-output-length
 returns-then-output-length c = tree_long _ _ _ _ _ c.measure_all.ensures.1 c.in-End.is c.measure_all.ensures.0 c.if-e-tree.false (omega arith) c.if-output-length.true c.refuse-then-output-length.ensures
