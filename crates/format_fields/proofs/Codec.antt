@@ -275,13 +275,13 @@ encode_length f fs = omega (arith, field_length f, length-append (encode_field f
 
 -- A field of a language whose contents are over the limit.
 abbrev pub is_over : (ℕ → Bool) → ℕ → Field → Bool
-is_over is_language limit f = is_language (tag_of f) && ltb limit (length (contents_of f))
+is_over isLanguage limit f = isLanguage (tag_of f) && ltb limit (length (contents_of f))
 
-module _ (is_language : ℕ → Bool) (limit : ℕ) where
+module _ (isLanguage : ℕ → Bool) (limit : ℕ) where
   -- A turn of the walk that looks for a field over the limit.
   over_turn : (tag high low : ℕ) (c rest : List ℕ) (fuel : ℕ) → length c ≡ high * 256 + low
-      → says_over (suc fuel) is_language limit (tag ∷ high ∷ low ∷ (c ++ rest))
-      ≡ is_over is_language limit (field tag c) || says_over fuel is_language limit rest
+      → says_over (suc fuel) isLanguage limit (tag ∷ high ∷ low ∷ (c ++ rest))
+      ≡ is_over isLanguage limit (field tag c) || says_over fuel isLanguage limit rest
   unfolding says_over pair_at
   over_turn tag high low c rest fuel e =
       let n : ℕ = high * 256 + low in
@@ -289,13 +289,13 @@ module _ (is_language : ℕ → Bool) (limit : ℕ) where
       let k : 2 + n ≤ suc (suc (length (c ++ rest))) = omega (arith, length-append c rest) in
       let d : drop (2 + n) (high ∷ low ∷ (c ++ rest)) ≡ rest =
       sym (drop-drop n 2 (high ∷ low ∷ (c ++ rest))) ∙ (ap (λ (m : ℕ). drop m (c ++ rest)) (sym e) ∙ drop-append_seam c rest) in
-      by_test (is_language tag && ltb limit n)
+      by_test (isLanguage tag && ltb limit n)
       (λ t. cc (le-leb 2 (suc (suc (length (c ++ rest)))) j))
       (λ t. cc (le-leb 2 (suc (suc (length (c ++ rest)))) j, le-leb (2 + n) (suc (suc (length (c ++ rest)))) k))
 
   -- The walk with fuel for all bytes.
   says_made : {s : List ℕ} {fs : List Field} → Made s fs → (fuel : ℕ) → length s < fuel
-      → says_over fuel is_language limit s ≡ any (is_over is_language limit) fs
+      → says_over fuel isLanguage limit s ≡ any (is_over isLanguage limit) fs
   unfolding says_over any
   says_made end zero h = absurd (omega arith)
   says_made (more e m) zero h = absurd (omega arith)
@@ -303,52 +303,52 @@ module _ (is_language : ℕ → Bool) (limit : ℕ) where
   says_made (more {tag = tag} {high = high} {low = low} {c = c} {rest = rest} {fs = fs} e m) (suc fuel) h =
       let u : length rest < fuel = omega (arith, length-append c rest) in
       over_turn tag high low c rest fuel e
-      ∙ ap (λ (b : Bool). is_over is_language limit (field tag c) || b) (says_made m fuel u)
+      ∙ ap (λ (b : Bool). is_over isLanguage limit (field tag c) || b) (says_made m fuel u)
 
   -- Whole fields say that one is over the limit exactly if one is.
-  pub over_made : {s : List ℕ} {fs : List Field} → Made s fs → has_over is_language limit s ≡ any (is_over is_language limit) fs
+  pub over_made : {s : List ℕ} {fs : List Field} → Made s fs → has_over isLanguage limit s ≡ any (is_over isLanguage limit) fs
   unfolding has_over
   over_made {s} m = says_made m (suc (length s)) (omega arith)
 
   -- The same of fields that are written.
-  pub over_encode : (fs : List Field) → has_over is_language limit (encode_fields fs) ≡ any (is_over is_language limit) fs
+  pub over_encode : (fs : List Field) → has_over isLanguage limit (encode_fields fs) ≡ any (is_over isLanguage limit) fs
   over_encode fs = over_made (encode_made fs)
 
   -- A field that is a language's is within the limit.
   abbrev pub Within : Field → Type 0
-  Within f = is_language (tag_of f) ≡ true → length (contents_of f) ≤ limit
+  Within f = isLanguage (tag_of f) ≡ true → length (contents_of f) ≤ limit
 
   -- A field that is not over the limit is within it.
-  over_field : (f : Field) → is_over is_language limit f ≡ false → Within f
+  over_field : (f : Field) → is_over isLanguage limit f ≡ false → Within f
   over_field f e d = ltb-false limit (length (contents_of f)) (cc)
 
   -- A field within the limit is not over it.
-  within_field : (f : Field) → Within f → is_over is_language limit f ≡ false
+  within_field : (f : Field) → Within f → is_over isLanguage limit f ≡ false
   within_field f h =
-      by_test (is_language (tag_of f))
+      by_test (isLanguage (tag_of f))
       (λ d. cc (le-ltb limit (length (contents_of f)) (h d)))
       (λ d. cc)
 
   -- No field is over the limit: each is within it.
-  none_over : (fs : List Field) → any (is_over is_language limit) fs ≡ false → Each Within fs
+  none_over : (fs : List Field) → any (is_over isLanguage limit) fs ≡ false → Each Within fs
   unfolding any
   none_over [] e = tt
   none_over (f ∷ fs) e =
-      let h = or_false (is_over is_language limit f) (any (is_over is_language limit) fs) e in
+      let h = or_false (is_over isLanguage limit f) (any (is_over isLanguage limit) fs) e in
       (over_field f h.0, none_over fs h.1)
 
   -- Each is within the limit: none is over it.
-  all_within_lem : (fs : List Field) → Each Within fs → any (is_over is_language limit) fs ≡ false
+  all_within_lem : (fs : List Field) → Each Within fs → any (is_over isLanguage limit) fs ≡ false
   unfolding any
   all_within_lem [] h = refl
   all_within_lem (f ∷ fs) h = false_or _ _ (within_field f h.0) (all_within_lem fs h.1)
 
   -- No field is said to be over the limit exactly if each is within it.
-  pub not_over : (s : List ℕ) (fs : List Field) → fields_of s ≡ some fs → has_over is_language limit s ≡ false → Each Within fs
+  pub not_over : (s : List ℕ) (fs : List Field) → fields_of s ≡ some fs → has_over isLanguage limit s ≡ false → Each Within fs
   not_over s fs e h = none_over fs (sym (over_made (fields_made s fs e)) ∙ h)
 
   -- Fields within the limit, written.
-  pub within_over : (fs : List Field) → Each Within fs → has_over is_language limit (encode_fields fs) ≡ false
+  pub within_over : (fs : List Field) → Each Within fs → has_over isLanguage limit (encode_fields fs) ≡ false
   within_over fs h = over_encode fs ∙ all_within_lem fs h
 
 -- Entries that are kept one to a field: how a field is read, how an entry is written, and the test of what can be written.

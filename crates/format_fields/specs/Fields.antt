@@ -50,17 +50,17 @@ decoded_in decode (some fs) = traverse decode fs
 -- A field whose tag is of a language, reached over whole fields of any tag, says in its length bytes that it is
 -- over the limit (paper 01, "Check a translation", last sentence). Its contents need not be whole.
 unfoldable pub says_over : ℕ → (ℕ → Bool) → ℕ → List ℕ → Bool
-says_over zero is_language limit s = false
-says_over (suc fuel) is_language limit [] = false
-says_over (suc fuel) is_language limit (tag ∷ r) =
+says_over zero isLanguage limit s = false
+says_over (suc fuel) isLanguage limit [] = false
+says_over (suc fuel) isLanguage limit (tag ∷ r) =
     elim (leb 2 (length r)) [
       | false ↦ false
       | true ↦
-          elim (is_language tag && ltb limit (pair_at r 0)) [
+          elim (isLanguage tag && ltb limit (pair_at r 0)) [
             | true ↦ true
             | false ↦
                 elim (leb (2 + pair_at r 0) (length r)) [
-                  | true ↦ says_over fuel is_language limit (drop (2 + pair_at r 0) r)
+                  | true ↦ says_over fuel isLanguage limit (drop (2 + pair_at r 0) r)
                   | false ↦ false
                 ]
           ]
@@ -68,4 +68,4 @@ says_over (suc fuel) is_language limit (tag ∷ r) =
 
 -- The same, with fuel for all bytes.
 unfoldable pub has_over : (ℕ → Bool) → ℕ → List ℕ → Bool
-has_over is_language limit s = says_over (suc (length s)) is_language limit s
+has_over isLanguage limit s = says_over (suc (length s)) isLanguage limit s

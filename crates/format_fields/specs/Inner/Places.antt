@@ -93,7 +93,7 @@ slot_at leading s p = cond (ltb (byte_at s p) numbered_tag) (key_at leading s p)
 -- The first three bytes of the field at p are there, its tag is of a language, and its length bytes say that it is
 -- over the limit. `proofs/Over.antt` shows that `has_over` asks for such a place.
 unfoldable pub over_at : (ℕ → Bool) → ℕ → List ℕ → ℕ → Bool
-over_at is_language limit s p = leb (p + 3) (length s) && (is_language (byte_at s p) && ltb limit (pair_at s (p + 1)))
+over_at isLanguage limit s p = leb (p + 3) (length s) && (isLanguage (byte_at s p) && ltb limit (pair_at s (p + 1)))
 
 -- From p on up to r there are only entries whose keys are below `least`, and the one at r is not.
 pub record Skipped (leading least : ℕ) (s : List ℕ) (p r : ℕ) : Type 0 where
