@@ -19,10 +19,10 @@
  * - When a function is called, at least ALGEBRA_STACK_BYTES bytes of stack are left to it. The
  *   stack is bounded since all levels are (64 of a tree, 16 of a code, 12 of a term). How many
  *   calls these open is proved of every function that calls itself; from that and the object code
- *   follows the most that each function can use, in bytes: check_language 144, import 18,376,
- *   export 32,824, check_tree 36,808, index 36,904, locate 36,920, node 37,016, block 37,032,
- *   edit 37,336, score 45,128, score_loose 45,144, check_translation 47,192, mask 56,184,
- *   join_table 70,040, reduce 184,864, search 194,392, run 314,496.
+ *   follows the most that each function can use, in bytes: check_language 112, import 18,376,
+ *   check_tree 26,112, locate 26,128, block 26,256, node 26,256, export 26,376, index 27,144,
+ *   edit 27,320, mask 41,040, score 44,072, score_loose 44,088, check_translation 44,144,
+ *   join_table 67,448, search 174,128, reduce 174,208, run 282,224.
  *
  * Nothing else is asked: every content of the inputs, every length and every root has an
  * answer, and every call ends. The library has no global state, allocates nothing, and calls
