@@ -21,8 +21,8 @@
  *   calls these open is proved of every function that calls itself; from that and the object code
  *   follows the most that each function can use, in bytes: check_language 112, import 18,376,
  *   check_tree 26,112, locate 26,128, block 26,256, node 26,256, export 26,376, index 27,144,
- *   edit 27,304, mask 41,040, score 44,056, score_loose 44,072, check_translation 44,144,
- *   join_table 67,432, search 174,128, reduce 174,208, run 282,224.
+ *   edit 27,320, mask 41,040, score 44,072, score_loose 44,088, check_translation 44,144,
+ *   join_table 67,448, search 174,128, reduce 174,208, run 282,224.
  *
  * Nothing else is asked: every content of the inputs, every length and every root has an
  * answer, and every call ends. The library has no global state, allocates nothing, and calls
