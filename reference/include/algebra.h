@@ -19,10 +19,10 @@
  * - When a function is called, at least ALGEBRA_STACK_BYTES bytes of stack are left to it. The
  *   stack is bounded since all levels are (64 of a tree, 16 of a code, 12 of a term). How many
  *   calls these open is proved of every function that calls itself; from that and the object code
- *   follows the most that each function can use, in bytes: check_language 112, import 18,376,
- *   check_tree 26,112, locate 26,128, block 26,256, node 26,256, export 26,376, index 27,144,
- *   edit 27,320, mask 41,040, score 44,072, score_loose 44,088, check_translation 44,144,
- *   join_table 67,448, search 174,128, reduce 174,208, run 282,224.
+ *   follows the most that each function can use, in bytes: check_language 104, import 19,144,
+ *   export 26,072, check_tree 29,336, locate 29,352, index 29,368, block 29,512, node 29,528,
+ *   edit 29,736, score 43,080, score_loose 43,080, check_translation 45,064, mask 45,416,
+ *   join_table 67,912, reduce 142,656, search 172,872, run 255,368.
  *
  * Nothing else is asked: every content of the inputs, every length and every root has an
  * answer, and every call ends. The library has no global state, allocates nothing, and calls

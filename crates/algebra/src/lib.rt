@@ -41,21 +41,12 @@ use tree_mask::mask::mask;
 use tree_node::node::node;
 use xml_operations::operations::{export, import};
 
-// The number of an answer.
-fn number_of(answer: Answer) -> u32
-    ensures { result ≡ number_of answer.outcome }
-{
-    let outcome = answer.outcome;
-    number(outcome)
-}
-
 // Puts the length of an answer where the caller wants it, and gives its number.
 fn hand_over(answer: Answer, length: &mut u64) -> u32
     ensures { (result ≡ number_of answer.outcome) × (length.new ≡ length_of answer.outcome) }
 {
-    let outcome = answer.outcome;
-    *length = length_of(outcome);
-    number_of(answer)
+    *length = length_of(answer.outcome);
+    number(answer.outcome)
 }
 
 // Check a language.
@@ -63,7 +54,7 @@ fn hand_over(answer: Answer, length: &mut u64) -> u32
 pub extern "C" fn algebra_check_language(language: &[u8]) -> u32
     ensures { result ≡ number_of (check_language language.now) }
 {
-    number_of(check_language(language))
+    number(check_language(language).outcome)
 }
 
 // Check a translation.
@@ -71,7 +62,7 @@ pub extern "C" fn algebra_check_language(language: &[u8]) -> u32
 pub extern "C" fn algebra_check_translation(translation: &[u8]) -> u32
     ensures { result ≡ number_of (check_translation translation.now) }
 {
-    number_of(check_translation(translation))
+    number(check_translation(translation).outcome)
 }
 
 // Check a tree of a language, of the root kind.
@@ -79,19 +70,19 @@ pub extern "C" fn algebra_check_translation(translation: &[u8]) -> u32
 pub extern "C" fn algebra_check_tree(language: &[u8], root: u32, tree: &[u8]) -> u32
     ensures { result ≡ number_of (check_tree language.now root tree.now) }
 {
-    number_of(check_tree(language, root, tree))
+    number(check_tree(language, root, tree).outcome)
 }
 
 // Check a tree, and tell where reading stopped: the position is put into `position`.
 #[unsafe(no_mangle)]
 pub extern "C" fn algebra_locate(language: &[u8], root: u32, tree: &[u8], position: &mut u64) -> u32
-    ensures { (result ≡ number_of (locate_tree language.now root tree.now).outcome)
-        × (position.new ≡ (locate_tree language.now root tree.now).position) }
+    ensures { let answer = locate_tree language.now root tree.now in
+        (result ≡ number_of answer.outcome)
+        × (position.new ≡ answer.position) }
 {
     let located = locate(language, root, tree);
     *position = located.position as u64;
-    let outcome = located.outcome;
-    number(outcome)
+    number(located.outcome)
 }
 
 // Run a translation by a number on a tree of the root kind; the length of the result is put into `length`, how many clauses were
@@ -106,13 +97,13 @@ pub extern "C" fn algebra_run(
     length: &mut u64,
     cost: &mut u32,
 ) -> u32
-    ensures { (result ≡ number_of (run_tree translation.now root number tree.now output.old).outcome)
-        × (length.new ≡ length_of (run_tree translation.now root number tree.now output.old).outcome)
-        × (output.new ≡ (run_tree translation.now root number tree.now output.old).output)
+    ensures { let answer = run_tree translation.now root number tree.now output.old in
+        (result ≡ number_of answer.outcome)
+        × (length.new ≡ length_of answer.outcome)
+        × (output.new ≡ answer.output)
         × (cost.new ≡ run_cost translation.now root number tree.now (size output.old)) }
 {
-    let answer = run(translation, root, number, tree, output, cost);
-    hand_over(answer, length)
+    hand_over(run(translation, root, number, tree, output, cost), length)
 }
 
 // Reduce a pack to one translation; the length of its bytes is put into `length`.
@@ -123,13 +114,13 @@ pub extern "C" fn algebra_reduce(
     output: &mut [u8],
     length: &mut u64,
 ) -> u32
-    ensures { (result ≡ number_of (Reducing.reduce pack.now workspace.old output.old).outcome)
-        × (length.new ≡ length_of (Reducing.reduce pack.now workspace.old output.old).outcome)
-        × (output.new ≡ (Reducing.reduce pack.now workspace.old output.old).output)
-        × (workspace.new ≡ (Reducing.reduce pack.now workspace.old output.old).workspace) }
+    ensures { let answer = Reducing.reduce pack.now workspace.old output.old in
+        (result ≡ number_of answer.outcome)
+        × (length.new ≡ length_of answer.outcome)
+        × (output.new ≡ answer.output)
+        × (workspace.new ≡ answer.workspace) }
 {
-    let answer = reduce(pack, workspace, output);
-    hand_over(answer, length)
+    hand_over(reduce(pack, workspace, output), length)
 }
 
 // Score a tree of the root kind by a load table of the language; the score is put into `points`.
@@ -141,14 +132,13 @@ pub extern "C" fn algebra_score(
     table: &[u8],
     points: &mut i64,
 ) -> u32
-    ensures { (result ≡ number_of (score_tree language.now root tree.now table.now).outcome)
-        × (points.new ≡ (score_tree language.now root tree.now table.now).score) }
+    ensures { let answer = score_tree language.now root tree.now table.now in
+        (result ≡ number_of answer.outcome)
+        × (points.new ≡ answer.score) }
 {
     let scored = score(language, root, tree, table);
-    let z = scored.score;
-    *points = z;
-    let outcome = scored.outcome;
-    number(outcome)
+    *points = scored.score;
+    number(scored.outcome)
 }
 
 // Score a loose plan of the root kind; the two ends of its score are put into `least` and `greatest`.
@@ -161,17 +151,15 @@ pub extern "C" fn algebra_score_loose(
     least: &mut i64,
     greatest: &mut i64,
 ) -> u32
-    ensures { (result ≡ number_of (score_loose language.now root tree.now table.now).outcome)
-        × (least.new ≡ (score_loose language.now root tree.now table.now).least)
-        × (greatest.new ≡ (score_loose language.now root tree.now table.now).greatest) }
+    ensures { let answer = score_loose language.now root tree.now table.now in
+        (result ≡ number_of answer.outcome)
+        × (least.new ≡ answer.least)
+        × (greatest.new ≡ answer.greatest) }
 {
     let scored = score_loose(language, root, tree, table);
-    let low = scored.least;
-    let high = scored.greatest;
-    *least = low;
-    *greatest = high;
-    let outcome = scored.outcome;
-    number(outcome)
+    *least = scored.least;
+    *greatest = scored.greatest;
+    number(scored.outcome)
 }
 
 // Join a load table onto a translation; the length of the joined table is put into `length`.
@@ -182,12 +170,12 @@ pub extern "C" fn algebra_join_table(
     output: &mut [u8],
     length: &mut u64,
 ) -> u32
-    ensures { (result ≡ number_of (join_table translation.now table.now output.old).outcome)
-        × (length.new ≡ length_of (join_table translation.now table.now output.old).outcome)
-        × (output.new ≡ (join_table translation.now table.now output.old).output) }
+    ensures { let answer = join_table translation.now table.now output.old in
+        (result ≡ number_of answer.outcome)
+        × (length.new ≡ length_of answer.outcome)
+        × (output.new ≡ answer.output) }
 {
-    let answer = join_table(translation, table, output);
-    hand_over(answer, length)
+    hand_over(join_table(translation, table, output), length)
 }
 
 // Export a tree of the root kind as XML; the length of the text is put into `length`.
@@ -199,12 +187,12 @@ pub extern "C" fn algebra_export(
     output: &mut [u8],
     length: &mut u64,
 ) -> u32
-    ensures { (result ≡ number_of (export_tree language.now root tree.now output.old).outcome)
-        × (length.new ≡ length_of (export_tree language.now root tree.now output.old).outcome)
-        × (output.new ≡ (export_tree language.now root tree.now output.old).output) }
+    ensures { let answer = export_tree language.now root tree.now output.old in
+        (result ≡ number_of answer.outcome)
+        × (length.new ≡ length_of answer.outcome)
+        × (output.new ≡ answer.output) }
 {
-    let answer = export(language, root, tree, output);
-    hand_over(answer, length)
+    hand_over(export(language, root, tree, output), length)
 }
 
 // Import a tree of the root kind from XML; the length of its bytes is put into `length`.
@@ -216,12 +204,12 @@ pub extern "C" fn algebra_import(
     output: &mut [u8],
     length: &mut u64,
 ) -> u32
-    ensures { (result ≡ number_of (import_tree language.now root text.now output.old).outcome)
-        × (length.new ≡ length_of (import_tree language.now root text.now output.old).outcome)
-        × (output.new ≡ (import_tree language.now root text.now output.old).output) }
+    ensures { let answer = import_tree language.now root text.now output.old in
+        (result ≡ number_of answer.outcome)
+        × (length.new ≡ length_of answer.outcome)
+        × (output.new ≡ answer.output) }
 {
-    let answer = import(language, root, text, output);
-    hand_over(answer, length)
+    hand_over(import(language, root, text, output), length)
 }
 
 // Build the index of a tree of the root kind; its length is put into `length`.
@@ -233,12 +221,12 @@ pub extern "C" fn algebra_index(
     output: &mut [u8],
     length: &mut u64,
 ) -> u32
-    ensures { (result ≡ number_of (index_tree language.now root tree.now output.old).outcome)
-        × (length.new ≡ length_of (index_tree language.now root tree.now output.old).outcome)
-        × (output.new ≡ (index_tree language.now root tree.now output.old).output) }
+    ensures { let answer = index_tree language.now root tree.now output.old in
+        (result ≡ number_of answer.outcome)
+        × (length.new ≡ length_of answer.outcome)
+        × (output.new ≡ answer.output) }
 {
-    let answer = index(language, root, tree, output);
-    hand_over(answer, length)
+    hand_over(index(language, root, tree, output), length)
 }
 
 // Mask a tree of the root kind for the holder of a card; the length of the masked bytes is put into `length`.
@@ -251,12 +239,12 @@ pub extern "C" fn algebra_mask(
     output: &mut [u8],
     length: &mut u64,
 ) -> u32
-    ensures { (result ≡ number_of (mask_tree language.now root card.now tree.now output.old).outcome)
-        × (length.new ≡ length_of (mask_tree language.now root card.now tree.now output.old).outcome)
-        × (output.new ≡ (mask_tree language.now root card.now tree.now output.old).output) }
+    ensures { let answer = mask_tree language.now root card.now tree.now output.old in
+        (result ≡ number_of answer.outcome)
+        × (length.new ≡ length_of answer.outcome)
+        × (output.new ≡ answer.output) }
 {
-    let answer = mask(language, root, card, tree, output);
-    hand_over(answer, length)
+    hand_over(mask(language, root, card, tree, output), length)
 }
 
 // Show one block of a tree of the root kind that has the index. Where it starts in the tree, how many bytes it has there and its
@@ -276,10 +264,9 @@ pub extern "C" fn algebra_block(
         result start.new length.new kind.new }
 {
     let placed = place(language, root, tree, index, path);
-    let outcome = placed.outcome;
     *start = placed.start as u64;
     *kind = placed.kind;
-    hand_over(Answer { outcome: outcome }, length)
+    hand_over(Answer::from(placed.outcome), length)
 }
 
 // Show what stands at a path of a tree of the root kind that has the index: its kind, its name and how many arguments it has are put
@@ -302,8 +289,7 @@ pub extern "C" fn algebra_node(
     *kind = described.kind;
     *name = described.name;
     *arguments = described.arguments;
-    let outcome = described.outcome;
-    number(outcome)
+    number(described.outcome)
 }
 
 // Replace the block at a path of a plan of the root kind that has the index, for the holder of a card. The new plan and its index
@@ -328,9 +314,8 @@ pub extern "C" fn algebra_edit(
     let edited = edit(
         language, root, tree, index, path, card, block, plan, plan_index,
     );
-    let outcome = edited.outcome;
     *index_length = edited.indexed as u64;
-    hand_over(Answer { outcome: outcome }, plan_length)
+    hand_over(Answer::from(edited.outcome), plan_length)
 }
 
 // Search back: the first source tree of the root kind, within a limit of levels, whose run is the tree. Its length is put into
@@ -345,11 +330,14 @@ pub extern "C" fn algebra_search(
     output: &mut [u8],
     length: &mut u64,
 ) -> u32
-    ensures { (result ≡ number_of (search_tree translation.now root tree.now limit workspace.old output.old).outcome)
-        × (length.new ≡ length_of (search_tree translation.now root tree.now limit workspace.old output.old).outcome)
-        × (output.new ≡ (search_tree translation.now root tree.now limit workspace.old output.old).output)
-        × (workspace.new ≡ (search_tree translation.now root tree.now limit workspace.old output.old).workspace) }
+    ensures { let answer = search_tree translation.now root tree.now limit workspace.old output.old in
+        (result ≡ number_of answer.outcome)
+        × (length.new ≡ length_of answer.outcome)
+        × (output.new ≡ answer.output)
+        × (workspace.new ≡ answer.workspace) }
 {
-    let answer = search(translation, root, tree, limit, workspace, output);
-    hand_over(answer, length)
+    hand_over(
+        search(translation, root, tree, limit, workspace, output),
+        length,
+    )
 }

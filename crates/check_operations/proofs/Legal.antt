@@ -1,10 +1,10 @@
 -- What a tree that was accepted is.
+use Rattle.std.specs.Prelude.{Err, Ok}
 use Prim.Native.Nat.{ℕ}
 use mathlib.Core.Path.{◌≡◌, refl, sym, ap}
 use mathlib.Core.Bool.{true, not}
 use mathlib.Core.List.{List, [], ◌∷◌}
 use Rattle.outcome.specs.Outcome.{Result, value, refused, checked, ◌>>=◌}
-use Rattle.outcome.specs.declared.Outcome.TheVariants.{Accepted, Refused}
 use Rattle.outcome.specs.declared.Reason.{Reason}
 use Rattle.outcome.specs.declared.Reason.TheVariants.{UnknownRoot}
 use Rattle.format_fields.proofs.Truth.{true_not}
@@ -46,28 +46,28 @@ pub record Checked (s : List ℕ) (root : ℕ) (bytes : List ℕ) : Type 0 where
   pub tree_is : tree_of language root bytes ≡ value subject
 
 module _ (s : List ℕ) (root : ℕ) (bytes : List ℕ) where
-  tree_checked : {n : ℕ} (l : Language) (m : Result Code) → language_of s ≡ value l → tree_of l root bytes ≡ m → checked m ≡ Accepted n → Checked s root bytes
+  tree_checked : {n : ℕ} (l : Language) (m : Result Code) → language_of s ≡ value l → tree_of l root bytes ≡ m → checked m ≡ Ok n → Checked s root bytes
   tree_checked l (value t) e f h = record { language = l; subject = t; is = e; tree_is = f }
   tree_checked {n} l (refused r) e f h = refused_not {n = n} {r = r} h
 
-  language_checked : {n : ℕ} (m : Result Language) → language_of s ≡ m → checked (m >>= λ l. tree_of l root bytes) ≡ Accepted n → Checked s root bytes
+  language_checked : {n : ℕ} (m : Result Language) → language_of s ≡ m → checked (m >>= λ l. tree_of l root bytes) ≡ Ok n → Checked s root bytes
   language_checked (value l) e h = tree_checked l (tree_of l root bytes) e refl h
   language_checked {n} (refused r) e h = refused_not {n = n} {r = r} h
 
-  pub accepted_tree : {n : ℕ} → check_tree s root bytes ≡ Accepted n → Checked s root bytes
+  pub accepted_tree : {n : ℕ} → check_tree s root bytes ≡ Ok n → Checked s root bytes
   unfolding check_tree
   accepted_tree h = language_checked (language_of s) refl h
 
   module _ {A : Type 0} (f : Language → Code → Result A) {r : Reason} where
-    tree_stays : (l : Language) (m : Result Code) → checked m ≡ Refused r → m >>= f l ≡ refused r
+    tree_stays : (l : Language) (m : Result Code) → checked m ≡ Err r → m >>= f l ≡ refused r
     tree_stays l (value t) h = refused_not {n = 0} {r = r} (sym h)
     tree_stays l (refused q) h = cc
 
-    language_stays : (m : Result Language) → checked (m >>= λ l. tree_of l root bytes) ≡ Refused r
+    language_stays : (m : Result Language) → checked (m >>= λ l. tree_of l root bytes) ≡ Err r
         → (m >>= λ l. tree_of l root bytes >>= f l) ≡ refused r
     language_stays (value l) h = tree_stays l (tree_of l root bytes) h
     language_stays (refused q) h = cc
 
-    pub refused_tree : check_tree s root bytes ≡ Refused r → (language_of s >>= λ l. tree_of l root bytes >>= f l) ≡ refused r
+    pub refused_tree : check_tree s root bytes ≡ Err r → (language_of s >>= λ l. tree_of l root bytes >>= f l) ≡ refused r
     unfolding check_tree
     refused_tree h = language_stays (language_of s) h

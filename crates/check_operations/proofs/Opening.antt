@@ -1,4 +1,5 @@
 -- Opening a language: a law for each return of the functions of open.rt, and what goes on from there.
+use Rattle.std.specs.Prelude.{Err, Ok}
 use Prim.Native.Nat.{ℕ, ◌≤◌}
 use mathlib.Core.Path.{◌≡◌, refl, sym, ap, ◌∙◌}
 use mathlib.Core.Bool.{Bool, true, false, not}
@@ -8,9 +9,7 @@ use native.Mathlib.Omega.{arith}
 use lib.ListN.{length}
 use lib.Dec.{ltb}
 use borrow.Author.Tests.{le-ltb, ltb-false}
-use Rattle.outcome.specs.Outcome.{Result, value, refused, refuse_if, checked, ◌>>=◌}
-use Rattle.outcome.specs.declared.Outcome.{Outcome}
-use Rattle.outcome.specs.declared.Outcome.TheVariants.{Accepted, Refused}
+use Rattle.outcome.specs.Outcome.{Result, value, refused, refuse_if, checked, ◌>>=◌, Outcome}
 use Rattle.outcome.specs.declared.Reason.{Reason}
 use Rattle.outcome.specs.declared.Reason.TheVariants as Why
 use Rattle.format_fields.specs.Keyed.{rising}
@@ -29,7 +28,7 @@ use Rattle.format_translation.proofs.Accepted.{refused_not}
 use Rattle.check_operations.specs.Inner.Opening.{root_in, rooted_of, OpenedAlone, Opened}
 
 -- A refusal is no acceptance.
-pub unaccepted : {o : Outcome} {r : Reason} {n : ℕ} {A : Type 0} → o ≡ Refused r → o ≡ Accepted n → A
+pub unaccepted : {o : Outcome} {r : Reason} {n : ℕ} {A : Type 0} → o ≡ Err r → o ≡ Ok n → A
 unaccepted {r = r} {n = n} h i = refused_not {n = n} {r = r} (sym h ∙ i)
 
 -- What a language that was accepted holds.
@@ -40,7 +39,7 @@ pub record Accepts (s : List ℕ) : Type 0 where
   pub short : length s ≤ 1024
   pub apart : clashes language language ≡ false
 
-module _ (s : List ℕ) {o : Outcome} (eo : o ≡ check_language s) {n : ℕ} (accepted : o ≡ Accepted n) where
+module _ (s : List ℕ) {o : Outcome} (eo : o ≡ check_language s) {n : ℕ} (accepted : o ≡ Ok n) where
   accepts_last : (l : Language) → length s ≤ 1024 → entries_of s ≡ some l → Accepts s
   unfolding check_language language_of
   accepts_last l h e =
@@ -63,7 +62,7 @@ module _ (s : List ℕ) {o : Outcome} (eo : o ≡ check_language s) {n : ℕ} (a
       (λ i. accepts_entries (entries_of s) (ltb-false _ _ i) refl)
 
 -- What is known of a language that was accepted.
-accepted_language : (s : List ℕ) (l : Language) → language_of s ≡ value l → check_language s ≡ Accepted 0
+accepted_language : (s : List ℕ) (l : Language) → language_of s ≡ value l → check_language s ≡ Ok 0
 unfolding check_language
 accepted_language s l e = rw e
 
@@ -74,10 +73,7 @@ language_facts s l e =
     (a.entries ∙ ap some z, rw z at a.apart)
 
 -- index_language
-pub refused_same : {o p : Outcome} {r : Reason} → o ≡ p → o ≡ Refused r → Refused r ≡ p
-refused_same e h = sym h ∙ e
-
-pub refused_language : (s : List ℕ) {o : Outcome} {r : Reason} {l : Language} {A : Type 0} → o ≡ check_language s → o ≡ Refused r → language_of s ≡ value l → A
+pub refused_language : (s : List ℕ) {o : Outcome} {r : Reason} {l : Language} {A : Type 0} → o ≡ check_language s → o ≡ Err r → language_of s ≡ value l → A
 refused_language s {l = l} eo h e = unaccepted h (eo ∙ accepted_language s l e)
 
 pub opened_alone : (s index : List ℕ) → ((l : Language) → entries_of s ≡ some l → Indexed index s l)
@@ -105,20 +101,20 @@ rooted_opened s index root opened l e =
 
 -- open_language
 module _ (s : List ℕ) (root : ℕ) {o : Outcome} (eo : o ≡ check_language s) where
-  refused_case : (m : Result Language) {r : Reason} → language_of s ≡ m → checked m ≡ Refused r → checked (rooted_of s root) ≡ Refused r
+  refused_case : (m : Result Language) {r : Reason} → language_of s ≡ m → checked m ≡ Err r → checked (rooted_of s root) ≡ Err r
   unfolding rooted_of
   refused_case (value l) {r} e h = refused_not {n = 0} {r = r} (sym h)
   refused_case (refused q) e h = cc
 
-  pub open_refused : {r : Reason} → o ≡ Refused r → Refused r ≡ checked (rooted_of s root)
+  pub open_refused : {r : Reason} → o ≡ Err r → Err r ≡ checked (rooted_of s root)
   unfolding check_language
   open_refused h = sym (refused_case (language_of s) refl (sym eo ∙ h))
 
-  module _ {n : ℕ} (accepted : o ≡ Accepted n) {x : Bool} (ex : (l : Language) → entries_of s ≡ some l → x ≡ is_in l root) where
+  module _ {n : ℕ} (accepted : o ≡ Ok n) {x : Bool} (ex : (l : Language) → entries_of s ≡ some l → x ≡ is_in l root) where
     in_is : x ≡ is_in (accepts s eo accepted).language root
     in_is = ex _ (accepts s eo accepted).entries
 
-    pub open_out : x ≡ false → Refused Why.UnknownRoot ≡ checked (rooted_of s root)
+    pub open_out : x ≡ false → Err Why.UnknownRoot ≡ checked (rooted_of s root)
     unfolding rooted_of
     open_out h = let a = accepts s eo accepted in let i : is_in a.language root ≡ false = sym in_is ∙ h in rw (a.is, i)
 
@@ -129,19 +125,19 @@ module _ (s : List ℕ) (root : ℕ) {o : Outcome} (eo : o ≡ check_language s)
 -- What an operation that begins with opening goes on with: where it was accepted, the language, and where it was refused, the
 -- refusal, whatever it does then.
 module _ (s : List ℕ) (root : ℕ) where
-  accepted_value : (m : Result Language) {n : ℕ} → rooted_of s root ≡ m → checked m ≡ Accepted n → (l : Language) × (rooted_of s root ≡ value l)
+  accepted_value : (m : Result Language) {n : ℕ} → rooted_of s root ≡ m → checked m ≡ Ok n → (l : Language) × (rooted_of s root ≡ value l)
   accepted_value (value l) e h = (l, e)
   accepted_value (refused r) {n} e h = refused_not {n = n} {r = r} h
 
-  refused_value_of : (m : Result Language) {r : Reason} → rooted_of s root ≡ m → checked m ≡ Refused r → rooted_of s root ≡ refused r
+  refused_value_of : (m : Result Language) {r : Reason} → rooted_of s root ≡ m → checked m ≡ Err r → rooted_of s root ≡ refused r
   refused_value_of (value l) {r} e h = refused_not {n = 0} {r = r} (sym h)
   refused_value_of (refused q) e h = cc
 
   module _ {o : Outcome} (eo : o ≡ checked (rooted_of s root)) where
-    pub opened_language : {n : ℕ} → o ≡ Accepted n → (l : Language) × (rooted_of s root ≡ value l)
+    pub opened_language : {n : ℕ} → o ≡ Ok n → (l : Language) × (rooted_of s root ≡ value l)
     opened_language h = accepted_value (rooted_of s root) refl (sym eo ∙ h)
 
-    pub opened_not : {r : Reason} → o ≡ Refused r → rooted_of s root ≡ refused r
+    pub opened_not : {r : Reason} → o ≡ Err r → rooted_of s root ≡ refused r
     opened_not h = refused_value_of (rooted_of s root) refl (sym eo ∙ h)
 
 -- An operation that asks for the root once the language is there, and one that reads a tree.

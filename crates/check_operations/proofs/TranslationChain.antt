@@ -1,4 +1,5 @@
 -- The chain of tests of `check_translation`: a law for each return of the functions of the check.
+use Rattle.std.specs.Prelude.{Err}
 use Prim.Native.Nat.{ℕ, ◌+◌, ◌≤◌}
 use mathlib.Core.Path.{◌≡◌, refl, sym, ap, ◌∙◌}
 use mathlib.Core.Bool.{Bool, true, false, ◌||◌}
@@ -11,18 +12,14 @@ use borrow.Author.Tests.{ltb-false}
 use Rattle.format_fields.specs.Lists.{is_some}
 use Rattle.format_fields.specs.Fields.{has_over}
 use Rattle.format_fields.specs.Inner.Places.{field_end}
-use Rattle.outcome.specs.Outcome.{value, refused, ◌>>=◌, checked}
-use Rattle.outcome.specs.declared.Outcome.{Outcome}
-use Rattle.outcome.specs.declared.Outcome.TheVariants.{Refused}
+use Rattle.outcome.specs.Outcome.{value, refused, ◌>>=◌, checked, Outcome}
 use Rattle.outcome.specs.declared.Reason.TheVariants as Why
 use Rattle.format_fields.proofs.Truth.{false_true, some_is, or_false}
 use Rattle.format_fields.proofs.Codec.{refused_value}
-use Rattle.format_language.specs.Language.{clashes}
 use Rattle.format_language.specs.LanguageFile.{language_limit, whole}
 use Rattle.tree_reader.specs.Inner.Index.{Built}
 use Rattle.format_translation.specs.Translation.{Translation}
-use Rattle.format_translation.specs.TranslationFile.{parts_of, translation_limit, is_language_tag, all_rising, translation_of}
-use Rattle.format_translation.specs.WellFormed.{well_formed}
+use Rattle.format_translation.specs.TranslationFile.{parts_of, translation_limit, is_language_tag, translation_of}
 use Rattle.format_translation.specs.Operations.{check_translation}
 use Rattle.format_translation.specs.Inner.ItemIndex.{Mapped}
 use Rattle.format_translation.specs.Inner.Parts.{source_in, target_in}
@@ -32,27 +29,9 @@ use Rattle.format_translation.proofs.Codec.{translation_parts}
 use Rattle.format_translation.proofs.Found.{cut, cut_is, rest_is, parted}
 use Rattle.format_translation.proofs.Cuts.{parted_pieces, source_cut, target_cut}
 
--- check_parts
-module _ (f : Translation) (x : Bool) (ex : x ≡ all_rising f) where
-  pub order_refused : {o : Outcome} → x ≡ false → o ≡ Refused Why.OutOfOrder → o ≡ checked (in_order f)
-  order_refused h i = cc
-
-  pub order_none : {A : Type 0} → x ≡ false → in_order f ≡ value f → A
-  order_none h e = let d : in_order f ≡ refused Why.OutOfOrder = cc in refused_value (sym d ∙ e)
-
-  module _ (xt : x ≡ true) (y : Bool) (ey : y ≡ (clashes f.source f.source || clashes f.target f.target)) where
-    pub clash_refused : {o : Outcome} → y ≡ true → o ≡ Refused Why.ClassIsResult → o ≡ checked (in_order f)
-    clash_refused h i = cc
-
-    pub clash_none : {A : Type 0} → y ≡ true → in_order f ≡ value f → A
-    clash_none h e = let d : in_order f ≡ refused Why.ClassIsResult = cc in refused_value (sym d ∙ e)
-
-    pub formed_next : {o : Outcome} → y ≡ false → o ≡ checked (well_formed f) → o ≡ checked (in_order f)
-    formed_next h i = cc
-
 -- check_kept
 module _ (s : List ℕ) (over : Bool) (eo : over ≡ (ltb translation_limit (length s) || has_over is_language_tag language_limit s)) where
-  pub over_refused : {o : Outcome} → over ≡ true → o ≡ Refused Why.TooLong → o ≡ check_translation s
+  pub over_refused : {o : Outcome} → over ≡ true → o ≡ Err Why.TooLong → o ≡ check_translation s
   unfolding check_translation translation_of
   over_refused h i = cc
 
@@ -70,11 +49,11 @@ module _ (s : List ℕ) (over : Bool) (eo : over ≡ (ltb translation_limit (len
     chain = ap checked chain_of
 
     module _ (there : Bool) (et : there ≡ is_some (parts_of s)) where
-      absent : (p : Option Translation) → parts_of s ≡ p → is_some p ≡ false → checked (whole (parts_of s) >>= in_order) ≡ Refused Why.BrokenField
+      absent : (p : Option Translation) → parts_of s ≡ p → is_some p ≡ false → checked (whole (parts_of s) >>= in_order) ≡ Err Why.BrokenField
       absent none e h = rw e
       absent (some f) e h = false_true (sym h)
 
-      pub broken_refused : {o : Outcome} → there ≡ false → o ≡ Refused Why.BrokenField → o ≡ check_translation s
+      pub broken_refused : {o : Outcome} → there ≡ false → o ≡ Err Why.BrokenField → o ≡ check_translation s
       broken_refused h i = i ∙ sym (chain ∙ absent (parts_of s) refl (sym et ∙ h))
 
       pub broken_none : {A : Type 0} → there ≡ false → (f : Translation) → translation_of s ≡ value f → A

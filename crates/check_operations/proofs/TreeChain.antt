@@ -1,4 +1,6 @@
--- The check of a tree by its chain of tests: a law for each return of `whole_tree` and `check_indexed`.
+-- The check of a tree by its chain of tests: a law for each return of `check_indexed`.
+use Rattle.std.specs.Prelude.{Err, Ok}
+use Rattle.tree_reader.specs.declared.node.ReadError.TheVariants.{Deep, Broken}
 use Prim.Native.Nat.{ℕ, ◌+◌, ◌<◌, ◌≤◌}
 use mathlib.Core.Path.{◌≡◌, sym, ap, ◌∙◌}
 use mathlib.Core.List.{List, [], ◌∷◌}
@@ -6,12 +8,9 @@ use mathlib.Core.Option.{some}
 use native.Mathlib.Omega.{arith}
 use lib.ListN.{length, get_or, drop, drop_of_length-le}
 use lib.Dec.{eqb}
-use borrow.Author.Tests.{eq-eqb, ne_eqb, eqb-true, eqb-false}
-use Rattle.outcome.specs.Outcome.{Result, value, checked, ◌>>=◌}
-use Rattle.outcome.specs.declared.Outcome.{Outcome}
-use Rattle.outcome.specs.declared.Outcome.TheVariants.{Accepted, Refused}
+use borrow.Author.Tests.{eqb-true, eqb-false}
+use Rattle.outcome.specs.Outcome.{Result, value, checked, ◌>>=◌, Outcome}
 use Rattle.outcome.specs.declared.Reason.{Reason}
-use Rattle.outcome.specs.declared.Reason.TheVariants as Why
 use Rattle.format_fields.proofs.Truth.{by_test}
 use Rattle.format_fields.proofs.Split.{front}
 use Rattle.format_language.specs.Language.{Language}
@@ -19,9 +18,7 @@ use Rattle.format_language.specs.LanguageFile.{entries_of}
 use Rattle.tree_reader.specs.Code as C
 use Rattle.tree_reader.specs.Syntax as Meant
 use Rattle.tree_reader.specs.Operations.{tree_levels, whole_tree, check_tree}
-use Rattle.tree_reader.specs.declared.node.Read.{Read}
-use Rattle.tree_reader.specs.declared.node.Read.TheVariants.{End, Deep, Broken}
-use Rattle.tree_reader.specs.Inner.Positions.{EndsBy, rest_at, rest_of}
+use Rattle.tree_reader.specs.Inner.Positions.{EndsBy, rest_at, rest_of, Read}
 use Rattle.tree_reader.specs.Inner.Index.{Indexed}
 use Rattle.tree_reader.proofs.Meaning.{done_of, deep_of, broken_of}
 use Rattle.check_operations.specs.Inner.Opening.{rooted_of, Opened}
@@ -29,23 +26,9 @@ use Rattle.check_operations.specs.Inner.Chains.{whole_at}
 use Rattle.check_operations.proofs.Opening.{opened_not, rooted_tree}
 pub use Rattle.check_operations.proofs.Opening.{Accepts, accepts}
 
--- whole_tree
-module _ (n : ℕ) {f : Read} {o : Outcome} where
-  pub whole_all : {e : ℕ} → f ≡ End e → e ≡ n → o ≡ Accepted 0 → o ≡ whole_at f n
-  whole_all {e} y h i = cc (eq-eqb e n h)
-
-  pub whole_more : {e : ℕ} → f ≡ End e → (e ≡ n → ⊥) → o ≡ Refused Why.IllegalTree → o ≡ whole_at f n
-  whole_more {e} y h i = cc (ne_eqb e n h)
-
-  pub whole_deep : f ≡ Deep → o ≡ Refused Why.TooDeep → o ≡ whole_at f n
-  whole_deep y i = cc
-
-  pub whole_broken : f ≡ Broken → o ≡ Refused Why.IllegalTree → o ≡ whole_at f n
-  whole_broken y i = cc
-
 -- What was read is a whole tree where nothing is left.
 module _ (b : List ℕ) (g : Meant.Read C.Code) where
-  whole_end : (e : ℕ) → rest_at b (End e) ≡ rest_of g → e ≤ length b → whole_at (End e) (length b) ≡ checked (whole_tree g)
+  whole_end : (e : ℕ) → rest_at b (Ok e) ≡ rest_of g → e ≤ length b → whole_at (Ok e) (length b) ≡ checked (whole_tree g)
   whole_end e y h =
       let d = done_of g (drop e b) (sym y) in
       by_test (eqb e (length b))
@@ -59,13 +42,13 @@ module _ (b : List ℕ) (g : Meant.Read C.Code) where
       rw w (cc))
 
   whole_is : (r : Read) → rest_at b r ≡ rest_of g → EndsBy (length b) r → whole_at r (length b) ≡ checked (whole_tree g)
-  whole_is (End e) y h = whole_end e y h
-  whole_is Deep y h = cc (deep_of g (sym y))
-  whole_is Broken y h = cc (broken_of g (sym y))
+  whole_is (Ok e) y h = whole_end e y h
+  whole_is (Err Deep) y h = cc (deep_of g (sym y))
+  whole_is (Err Broken) y h = cc (broken_of g (sym y))
 
 -- check_indexed
 module _ (s : List ℕ) (root : ℕ) (b : List ℕ) {out : Outcome} where
-  pub tree_refused : {o : Outcome} {r : Reason} → o ≡ checked (rooted_of s root) → o ≡ Refused r → out ≡ Refused r → out ≡ check_tree s root b
+  pub tree_refused : {o : Outcome} {r : Reason} → o ≡ checked (rooted_of s root) → o ≡ Err r → out ≡ Err r → out ≡ check_tree s root b
   unfolding check_tree
   tree_refused eo h i =
       i ∙ sym (ap checked (rooted_tree s root b ∙ ap (λ (m : Result Language). m >>= λ l. whole_tree (Meant.read Meant.tree l [] tree_levels root b)) (opened_not s root eo h)))

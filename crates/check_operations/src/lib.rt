@@ -2,6 +2,5 @@
 #![tactic(auto)]
 
 pub mod open;
-pub mod put;
 pub mod translations;
 pub mod trees;

@@ -20,13 +20,9 @@ pub fn index_language(language: &[u8], index: &mut [u16]) -> Outcome
     ensures is { result ≡ check_language language.now }
     ensures opened { (l : Language) → language_of language.now ≡ value l → OpenedAlone language.now index.new l }
 {
-    let answer = check_language(language);
-    let outcome = answer.outcome;
-    if let Outcome::Refused(reason) = outcome {
-        return Outcome::Refused(reason);
-    }
+    let length = check_language(language).outcome?;
     build(language, index);
-    outcome
+    Ok(length)
 }
 
 // Whether a root is a kind of a language that was accepted.
@@ -46,12 +42,9 @@ pub fn open_language(language: &[u8], root: u32, index: &mut [u16]) -> Outcome
     ensures is { result ≡ checked (rooted_of language.now root) }
     ensures opened { (l : Language) → rooted_of language.now root ≡ value l → Opened language.now index.new root l }
 {
-    let outcome = index_language(language, index);
-    if let Outcome::Refused(reason) = outcome {
-        return Outcome::Refused(reason);
-    }
+    let length = index_language(language, index)?;
     if !is_root(language, root) {
-        return Outcome::Refused(Reason::UnknownRoot);
+        return Err(Reason::UnknownRoot);
     }
-    outcome
+    Ok(length)
 }

@@ -7,6 +7,7 @@ use mathlib.Core.Bool.{true, false}
 use mathlib.Core.List.{List, [], ◌∷◌, ◌++◌, append_assoc}
 use native.Mathlib.Omega.{arith}
 use lib.ListN.{length, get_or, replicate, length-replicate}
+use Rattle.std.specs.Prelude.{Some, None}
 use lib.Dec.{ltb}
 use borrow.Author.Tests.{eq-eqb, ne_eqb, lt-ltb}
 use Rattle.format_fields.specs.Lists.{all}
@@ -23,7 +24,7 @@ use Rattle.format_translation.specs.Translation.{mapping, item_key, plain_key, n
 use Rattle.format_translation.specs.Inner.Items.{item_whole, is_clause_tag}
 use Rattle.format_translation.proofs.Items.{key_is as item-key-is}
 use Rattle.check_wellformed.specs.Inner.Ready.{index_of}
-use Rattle.check_wellformed.specs.Inner.Tests.{is_clause_at, ClauseAt}
+use Rattle.check_wellformed.specs.Inner.Tests.{place_before, is_clause_at, ClauseAt}
 use Rattle.check_wellformed.proofs.Bounds.{Bounded, bounded_at}
 use Rattle.check_wellformed.proofs.Coded.{clause_at_lem, clause_key}
 use Rattle.check_wellformed.proofs.Mappings.{mapping_at}
@@ -60,9 +61,9 @@ module _ (s : List ℕ) (r : RisingEntries s) (key q : ℕ) (z : Skipped 0x11 ke
       let w = all_mem (entry_whole s) (places s) r.whole x (rw z.are (mem_append x z.before (places_from s q) (inl m))) in
       omega (arith, before_below 0x11 key s 0 q z x m, order_key s x, slot_key s x w, e)))
 
-  pub place_end : length s ≤ q → 0 ≡ get_or (index_of s) key 0
+  pub place_end : length s ≤ q → None ≡ place_before (get_or (index_of s) key 0)
   unfolding place_of
-  place_end h = sym (looked_up ∙ ap (place_of 0x11 s key) (places_done s q h))
+  place_end h = ap place_before (sym (looked_up ∙ ap (place_of 0x11 s key) (places_done s q h)))
 
   module _ (here : q < length s) where
     whole_from : all (entry_whole s) (places_from s q) ≡ true
@@ -75,14 +76,16 @@ module _ (s : List ℕ) (r : RisingEntries s) (key q : ℕ) (z : Skipped 0x11 ke
     place_long = (entry_kind s q whole_here).0
 
     module _ (k : ℕ) (ek : k ≡ key_at 0x11 s q) where
-      pub place_here : k ≡ key → q + 1 ≡ get_or (index_of s) key 0
+      pub place_here : k ≡ key → Some q ≡ place_before (get_or (index_of s) key 0)
       unfolding place_of
       place_here h =
           let e : slot_at 0x11 s q ≡ key = slot_key s q whole_here ∙ (sym ek ∙ h) in
-          sym (looked_up ∙ rw (places_next s q here, eq-eqb _ _ e))
+          let i : q + 1 ≡ suc q = omega arith in
+          let d : get_or (index_of s) key 0 ≡ suc q = looked_up ∙ rw (places_next s q here, eq-eqb _ _ e, i) refl in
+          sym (ap place_before d)
 
-      pub place_other : (k ≡ key → ⊥) → 0 ≡ get_or (index_of s) key 0
-      place_other h = sym (looked_up ∙ place_none s key (places_from s q) none_of)
+      pub place_other : (k ≡ key → ⊥) → None ≡ place_before (get_or (index_of s) key 0)
+      place_other h = ap place_before (sym (looked_up ∙ place_none s key (places_from s q) none_of))
         where
           none_of : (x : ℕ) → Mem x (places_from s q) → slot_at 0x11 s x ≡ key → ⊥
           none_of x m e =

@@ -1,4 +1,6 @@
 -- Codes by place: a law for each return of the functions on them, and what they say of the translation.
+use Rattle.tree_reader.specs.declared.node.ReadError.{ReadError}
+use Rattle.tree_reader.specs.declared.node.ReadError.TheVariants.{Deep, Broken}
 use Prim.Native.Nat.{ℕ, zero, suc, ◌+◌, ◌-◌, ◌*◌, ◌<◌, ◌≤◌}
 use mathlib.Core.Path.{◌≡◌, refl, sym, ap, ◌∙◌}
 use mathlib.Core.Bool.{Bool, true, false}
@@ -6,6 +8,9 @@ use mathlib.Core.List.{List, [], ◌∷◌, ◌++◌, map, append-nil, append_as
 use mathlib.Core.Option
 use mathlib.Core.Option.{Option, none, some}
 use native.Mathlib.Omega.{arith}
+use Rattle.std.specs.Prelude.{Option as Found, Some, None, Err, Ok, IsSome, nat_eq}
+use borrow.Author.Rules.{rules}
+use Rattle.std.specs.Result.{result_eq}
 use lib.ListN.{length, get_or, take, drop, length-take, length-drop, length-append, drop_of_length-le, get_or-eq_default}
 use lib.Seq.{slice, length-take-le, take_at, take_all, drop_at, get_or-take}
 use lib.Dec.{ltb, eqb}
@@ -13,7 +18,7 @@ use borrow.Author.Tests.{ne_eqb, eqb-true, eqb-false, ltb-true, ltb-false}
 use Rattle.format_fields.specs.Lists.{all, is_some}
 use Rattle.format_fields.specs.Fields.{pair_at}
 use Rattle.format_fields.specs.Inner.Places.{field_end, key_at}
-use Rattle.format_fields.specs.Inner.Writing.{Inside, Written}
+use Rattle.format_fields.specs.Inner.Writing.{Inside, Written, Stores}
 use Rattle.format_fields.proofs.Truth.{by_test, false_true, and_both}
 use Rattle.format_fields.proofs.Lists.{all_true}
 use Rattle.format_fields.proofs.Split.{front}
@@ -24,10 +29,8 @@ use Rattle.format_language.proofs.Lookup.{arguments_mem}
 use Rattle.tree_reader.specs.Code as C
 use Rattle.tree_reader.specs.Typing.{Uses}
 use Rattle.tree_reader.specs.Syntax as Meant
-use Rattle.tree_reader.specs.declared.node.Read.{Read}
-use Rattle.tree_reader.specs.declared.node.Read.TheVariants.{End, Deep, Broken}
 use Rattle.tree_reader.specs.Inner.Index.{Indexed, arguments_before}
-use Rattle.tree_reader.specs.Inner.Positions.{KindsIn, EndsBy, rest_at, rest_of, mapped_in, uses_in}
+use Rattle.tree_reader.specs.Inner.Positions.{KindsIn, EndsBy, rest_at, rest_of, mapped_in, uses_in, Read}
 use Rattle.tree_reader.proofs.Meaning.{done_of, deep_of, broken_of}
 use Rattle.format_translation.specs.Translation.{Body, Translation, mapping, mapping_of, mapped}
 use Rattle.format_translation.specs.TranslationFile.{body_of}
@@ -36,24 +39,13 @@ use Rattle.format_translation.specs.WellFormed.{code_fits}
 use Rattle.format_translation.specs.Inner.Items.{item_whole, item_at, ItemFacts, plain_mapping, plain_clause, numbered_mapping_lem, numbered_clause_lem, is_clause_tag, code_start, clause_number}
 use Rattle.format_translation.specs.Inner.ItemIndex.{Mapped, mapped_by}
 use Rattle.check_wellformed.specs.Inner.Ready.{Ready, index_of}
-use Rattle.check_wellformed.specs.Inner.Tests.{ends_at, is_clause_at, ClauseAt, Behind}
+use Rattle.check_wellformed.specs.Inner.Tests.{place_before, is_clause_at, ClauseAt, Behind}
 use Rattle.format_translation.proofs.Lookup.{mapping_mem}
 use Rattle.format_translation.proofs.Items.{item_facts, clause_is, numbered_clause_is}
 use Rattle.format_translation.proofs.Clauses.{mapped_is}
 use Rattle.format_translation.proofs.Found.{cut, cut_is}
 use Rattle.check_wellformed.proofs.Bounds.{bounded, within, mapped_below}
 use Rattle.check_wellformed.proofs.Source.{source_indexed}
-
--- ends_at
-module _ (n : ℕ) {r : Read} where
-  pub end_ends : {e : ℕ} → r ≡ End e → eqb e n ≡ ends_at r n
-  end_ends h = cc
-
-  pub deep_ends : r ≡ Deep → false ≡ ends_at r n
-  deep_ends h = cc
-
-  pub broken_ends : r ≡ Broken → false ≡ ends_at r n
-  broken_ends h = cc
 
 -- What is known of a clause by its place.
 pub clause_at_lem : (b : List ℕ) (p : ℕ) → is_clause_at b p ≡ true → ClauseAt b p
@@ -94,80 +86,80 @@ clause_long b p c = let x = c.starts in let y = c.past in let z = c.ends in omeg
 
 -- put_arguments
 module _ (is s : List ℕ) (l : Language) (z : Indexed is s l) (bytes : (i : ℕ) → get_or s i 0 < 256)
-    (k n : ℕ) (hk : k < 32) (hn : n < 256) (key : ℕ) (ek : key ≡ production_key k n) (place : ℕ) (ep : place ≡ get_or is key 0) where
-  place_is : place ≡ get_or is (production_key k n) 0
-  place_is = ep ∙ ap (λ (i : ℕ). get_or is i 0) ek
+    (k n : ℕ) (hk : k < 32) (hn : n < 256) (key : ℕ) (ek : key ≡ production_key k n) {o : Found ℕ} (eo : o ≡ place_before (get_or is key 0)) where
+  -- What stands in the index, where there is a place and where there is none.
+  index_none : o ≡ None → get_or is key 0 ≡ 0
+  index_none h = go (get_or is key 0) (sym eo ∙ h)
+    where
+      go : (x : ℕ) → place_before x ≡ None → x ≡ 0
+      go zero e = refl
+      go (suc x) e = cc
 
-  pub place_head : (place ≡ 0 → ⊥) → place + 4 ≤ length s
-  place_head h = let i : 0 < get_or is (production_key k n) 0 = rw (← place_is) (omega arith) in rw place_is (z.sound.name k n hk hn i)
+  index_some : (p : ℕ) → o ≡ Some p → get_or is key 0 ≡ suc p
+  index_some p h = go (get_or is key 0) (sym eo ∙ h)
+    where
+      go : (x : ℕ) → place_before x ≡ Some p → x ≡ suc p
+      go zero e = cc
+      go (suc x) e = let i : x ≡ p = cc in ap suc i
 
-  arguments_are : arguments_of l k n ≡ arguments_before s place
-  arguments_are = rw place_is (z.arguments k n hk hn)
+  pub put_none : o ≡ None → (u : List ℕ) → length u ≡ 8200 → Behind u u (Option.get_or (arguments_before s (get_or is key 0)) []) 8192
+  put_none h u e = record { bytes = rw (index_none h) (sym (append-nil (take 8192 u))); fits = omega arith; room = e; kept = refl }
 
-  module _ (stop : ℕ) (es : stop ≡ field_end s (place - 1)) (there : place ≡ 0 → ⊥) where
-    before_is : arguments_before s place ≡ some (slice (place + 4) stop s)
-    before_is = go place there es
-      where
-        go : (x : ℕ) → (x ≡ 0 → ⊥) → stop ≡ field_end s (x - 1) → arguments_before s x ≡ some (slice (x + 4) stop s)
-        go zero h e = absurd (h refl)
-        go (suc x) h e =
-            let i : suc x - 1 ≡ x = omega arith in
-            let j : x + 5 ≡ suc x + 4 = omega arith in
-            let d : field_end s x ≡ stop = sym (e ∙ ap (field_end s) i) in
-            rw (d, j) refl
+  module _ (p : ℕ) (there : o ≡ Some p) where
+    place_is : get_or is (production_key k n) 0 ≡ suc p
+    place_is = ap (λ (i : ℕ). get_or is i 0) (sym ek) ∙ index_some p there
 
-    pub few_arguments : length (slice (place + 4) stop s) ≤ 8
-    few_arguments =
-        let e : arguments_of l k n ≡ some (slice (place + 4) stop s) = arguments_are ∙ before_is in
-        (within s bytes l z.entries (production k n (slice (place + 4) stop s)) (arguments_mem l k n _ e)).2
+    module _ (first last : ℕ) (ef : first ≡ p + 1 + 4) (el : last ≡ p + 1 + 2 + pair_at s (p + 1)) where
+      before_is : arguments_before s (suc p) ≡ some (slice first last s)
+      unfolding field_end
+      before_is =
+          let i : field_end s p ≡ last = omega (arith, el) in
+          let j : p + 5 ≡ first = omega (arith, ef) in
+          rw (i, j) refl
 
-    pub arguments_value : Option.get_or (arguments_before s place) [] ≡ slice (place + 4) stop s
-    arguments_value = rw before_is
+      few_arguments : length (slice first last s) ≤ 8
+      few_arguments =
+          let e : arguments_of l k n ≡ some (slice first last s) = z.arguments k n hk hn ∙ (ap (arguments_before s) place_is ∙ before_is) in
+          (within s bytes l z.entries (production k n (slice first last s)) (arguments_mem l k n _ e)).2
 
-  pub put_none : place ≡ 0 → (u : List ℕ) → length u ≡ 8200 → Behind u u (Option.get_or (arguments_before s (get_or is key 0)) []) 8192
-  put_none h u e =
-      let i : get_or is key 0 ≡ 0 = sym ep ∙ h in
-      record { bytes = rw i (sym (append-nil (take 8192 u))); fits = omega arith; room = e; kept = refl }
+      found_is : Option.get_or (arguments_before s (get_or is key 0)) [] ≡ slice first last s
+      found_is = ap (λ (x : ℕ). Option.get_or (arguments_before s x) []) (index_some p there) ∙ ap (λ (x : Option (List ℕ)). Option.get_or x []) before_is
 
-  module _ (there : place ≡ 0 → ⊥) (first last : ℕ) (ef : first ≡ place + 4) (el : last ≡ place + 2 + pair_at s place) where
-    stop_is : last ≡ field_end s (place - 1)
-    unfolding field_end
-    stop_is = let i : place - 1 + 1 ≡ place = omega arith in rw i (omega (arith, el))
+      pub put_empty : last ≤ first → (u : List ℕ) → length u ≡ 8200 → Behind u u (Option.get_or (arguments_before s (get_or is key 0)) []) 8192
+      put_empty h u e =
+          let i : Option.get_or (arguments_before s (get_or is key 0)) [] ≡ [] =
+          found_is ∙ drop_of_length-le (take last s) {i = first} (simp length-take (omega arith)) in
+          record { bytes = rw i (sym (append-nil (take 8192 u))); fits = omega arith; room = e; kept = refl }
 
-    found_is : Option.get_or (arguments_before s (get_or is key 0)) [] ≡ slice first last s
-    found_is = rw (← ep, ef) (arguments_value last stop_is there)
+      pub put_inside : first < last → Inside s first last
+      put_inside h =
+          let w : KindsIn s (suc p + 4) (suc p + 2 + pair_at s (suc p)) = rw place_is at (z.sound.operands k n hk hn (rw place_is (omega arith))) in
+          let j : pair_at s (p + 1) ≡ pair_at s (suc p) = ap (pair_at s) (omega arith) in
+          let v = w (last - 1) (omega (arith, ef, el)) (omega (arith, ef, el)) in
+          record { rise = omega arith; fits = omega (arith, v.0) }
 
-    pub put_empty : last ≤ first → (u : List ℕ) → length u ≡ 8200 → Behind u u (Option.get_or (arguments_before s (get_or is key 0)) []) 8192
-    put_empty h u e =
-        let i : Option.get_or (arguments_before s (get_or is key 0)) [] ≡ [] =
-        found_is ∙ drop_of_length-le (take last s) {i = first} (simp length-take (omega arith)) in
-        record { bytes = rw i (sym (append-nil (take 8192 u))); fits = omega arith; room = e; kept = refl }
+      pub never_full : (u : List ℕ) {u' : List ℕ} {r : Found ℕ} → length u ≡ 8200 → Stores (slice first last s) u u' 8192 r → IsSome r
+      never_full u {r = r} e w = go r (λ h. omega (arith, few_arguments, w.full h))
+        where
+          go : (x : Found ℕ) → (x ≡ None → ⊥) → IsSome x
+          go (Some m) h = search rules
+          go None h = absurd (h refl)
 
-    pub put_inside : first < last → Inside s first last
-    put_inside h =
-        let i : 0 < get_or is (production_key k n) 0 = rw (← place_is) (omega arith) in
-        let w : KindsIn s (place + 4) (place + 2 + pair_at s place) = rw place_is (z.sound.operands k n hk hn i) in
-        let v = w (last - 1) (omega (arith, ef, el)) (omega (arith, ef, el)) in
-        record { rise = omega arith; fits = omega (arith, v.0) }
-
-    pub never_full : (u : List ℕ) → length u ≡ 8200 → length u < 8192 + length (slice first last s) → ⊥
-    never_full u e h = let k : length (slice first last s) ≤ 8 = rw ef (few_arguments last stop_is there) in omega (arith, k)
-
-    pub put_behind : (u u' : List ℕ) (r : ℕ) → length u ≡ 8200 → Written (slice first last s) u u' 8192 r
-        → Behind u u' (Option.get_or (arguments_before s (get_or is key 0)) []) r
-    put_behind u u' r e w =
-        let v = slice first last s in
-        let fits : 8192 + length v ≤ length u = omega (arith, w.end, w.fits) in
-        let l : length (take 8192 u) ≡ 8192 = length-take-le 8192 u (omega arith) in
-        let i : length (take 8192 u ++ v) ≡ r = omega (arith, length-append (take 8192 u) v, l, w.end) in
-        let o : u' ≡ take 8192 u ++ (v ++ drop (8192 + length v) u) = w.bytes ∙ opened u 8192 v in
-        let q : u' ≡ (take 8192 u ++ v) ++ drop (8192 + length v) u = o ∙ sym (append_assoc (take 8192 u) v (drop (8192 + length v) u)) in
-        record {
-          bytes = rw (found_is, q) (take_at (take 8192 u ++ v) (drop (8192 + length v) u) r i);
-          fits = omega (arith, w.fits);
-          room = ap length w.bytes ∙ (length_spliced u 8192 v fits ∙ e);
-          kept = rw o (take_at (take 8192 u) (v ++ drop (8192 + length v) u) 8192 l);
-        }
+      pub put_behind : (u u' : List ℕ) (r : ℕ) → length u ≡ 8200 → Written (slice first last s) u u' 8192 r
+          → Behind u u' (Option.get_or (arguments_before s (get_or is key 0)) []) r
+      put_behind u u' r e w =
+          let v = slice first last s in
+          let fits : 8192 + length v ≤ length u = omega (arith, w.end, w.fits) in
+          let l : length (take 8192 u) ≡ 8192 = length-take-le 8192 u (omega arith) in
+          let i : length (take 8192 u ++ v) ≡ r = omega (arith, length-append (take 8192 u) v, l, w.end) in
+          let o : u' ≡ take 8192 u ++ (v ++ drop (8192 + length v) u) = w.bytes ∙ opened u 8192 v in
+          let q : u' ≡ (take 8192 u ++ v) ++ drop (8192 + length v) u = o ∙ sym (append_assoc (take 8192 u) v (drop (8192 + length v) u)) in
+          record {
+            bytes = rw (found_is, q) (take_at (take 8192 u ++ v) (drop (8192 + length v) u) r i);
+            fits = omega (arith, w.fits);
+            room = ap length w.bytes ∙ (length_spliced u 8192 v fits ∙ e);
+            kept = rw o (take_at (take 8192 u) (v ++ drop (8192 + length v) u) 8192 l);
+          }
 
 -- A table that is the same in front maps the same.
 pub mapped_kept : (u v : List ℕ) (m : Body) → take 8192 v ≡ take 8192 u → Mapped u m → Mapped v m
@@ -291,16 +283,16 @@ module _ (s t it b u : List ℕ) (f : Translation) (z : Ready s t it b u f)
         (rw (c.is, ← v, ← kind_mapped, ← es, ← ee) ex, ready_still u' r key (get_or b (p + 3) 0) (get_or b (p + 4) 0) c.result (body_bytes (p + 4)) k w)
 
 -- code_reads
-module _ (b : List ℕ) (p e : ℕ) (past : p ≤ e) (ends : e ≤ length b) (l : Language) (uses : Uses) (kind : ℕ) where
+module _ (same : ReadError → ReadError → Bool) (b : List ℕ) (p e : ℕ) (past : p ≤ e) (ends : e ≤ length b) (l : Language) (uses : Uses) (kind : ℕ) where
   pub code_read : (r : Read) → rest_at (cut b p e) r ≡ rest_of (Meant.read Meant.code l uses 16 kind (cut b p e))
-      → EndsBy (length (cut b p e)) r → (x : Bool) → x ≡ ends_at r (e - p)
+      → EndsBy (length (cut b p e)) r → (x : Bool) → x ≡ result_eq nat_eq same r (Ok (e - p))
       → x ≡ is_some (whole_code (Meant.read Meant.code l uses 16 kind (slice p e b)))
   code_read r h w x ex =
       let n : length (cut b p e) ≡ e - p = simp (length-take, length-drop) (omega (arith, past, ends)) in
-      ex ∙ (ap (ends_at r) (sym n) ∙ (ends_is (cut b p e) (Meant.read Meant.code l uses 16 kind (cut b p e)) r h w
+      ex ∙ (ap (λ (m : ℕ). result_eq nat_eq same r (Ok m)) (sym n) ∙ (ends_is (cut b p e) (Meant.read Meant.code l uses 16 kind (cut b p e)) r h w
       ∙ ap (λ (u : List ℕ). is_some (whole_code (Meant.read Meant.code l uses 16 kind u))) (cut_is b p e past ends)))
     where
-      ends_end : (u : List ℕ) (g : Meant.Read C.Code) (j : ℕ) → rest_at u (End j) ≡ rest_of g → j ≤ length u → eqb j (length u) ≡ is_some (whole_code g)
+      ends_end : (u : List ℕ) (g : Meant.Read C.Code) (j : ℕ) → rest_at u (Ok j) ≡ rest_of g → j ≤ length u → eqb j (length u) ≡ is_some (whole_code g)
       ends_end u g j y i =
           let d = done_of g (drop j u) (sym y) in
           by_test (eqb j (length u))
@@ -313,7 +305,8 @@ module _ (b : List ℕ) (p e : ℕ) (past : p ≤ e) (ends : e ≤ length b) (l 
           let o : g ≡ Meant.done d.0 (get_or u j 0 ∷ drop (j + 1) u) = d.1 ∙ ap (Meant.done d.0) (front u j a) in
           rw o k)
 
-      ends_is : (u : List ℕ) (g : Meant.Read C.Code) (r : Read) → rest_at u r ≡ rest_of g → EndsBy (length u) r → ends_at r (length u) ≡ is_some (whole_code g)
-      ends_is u g (End j) y i = ends_end u g j y i
-      ends_is u g Deep y i = rw (deep_of g (sym y))
-      ends_is u g Broken y i = rw (broken_of g (sym y))
+      ends_is : (u : List ℕ) (g : Meant.Read C.Code) (r : Read) → rest_at u r ≡ rest_of g → EndsBy (length u) r
+          → result_eq nat_eq same r (Ok (length u)) ≡ is_some (whole_code g)
+      ends_is u g (Ok j) y i = ends_end u g j y i
+      ends_is u g (Err Deep) y i = rw (deep_of g (sym y))
+      ends_is u g (Err Broken) y i = rw (broken_of g (sym y))

@@ -7,11 +7,15 @@ use mathlib.Core.List.{List, [], ◌∷◌, map}
 use mathlib.Core.Option.{some}
 use native.Mathlib.Omega.{arith}
 use lib.ListN.{length, get_or}
+use Rattle.std.specs.Prelude.{Option, Some, None, SomeIff, nat_eq}
+use Rattle.std.specs.List.{list_all, range_with_len}
+use Rattle.std.specs.Option.{ForSome}
+use borrow.Author.Rules.{rules}
 use lib.Dec.{eqb}
-use borrow.Author.Tests.{eq-eqb, ne_eqb, eqb-true}
+use borrow.Author.Tests.{ne_eqb, eqb-true}
 use Rattle.format_fields.specs.Lists.{all, is_some, count_up}
 use Rattle.format_fields.specs.Inner.Places.{field_end, is_whole, places_from, places}
-use Rattle.format_fields.proofs.Lists.{all_stop, all_next, all_true, all_and}
+use Rattle.format_fields.proofs.Lists.{all_true, all_and}
 use Rattle.format_fields.proofs.Places.{places_next}
 use Rattle.format_fields.proofs.Truth.{Mem, by_test, false_true, and_both, count_mem}
 use Rattle.format_language.specs.Language.{range_within, is_in}
@@ -23,49 +27,31 @@ use Rattle.format_translation.specs.TranslationFile.{body_of}
 use Rattle.format_translation.specs.WellFormed.{kinds, kinds_mapped, reaches_target, keeps_range, class_kept, mapping_fits}
 use Rattle.format_translation.specs.Inner.Items.{mapping_whole, numbered_mapping_whole, item_good, item_whole, item_at, ItemFacts, plain_mapping, plain_clause, numbered_mapping_lem, numbered_clause_lem, is_clause_tag, items_whole}
 use Rattle.check_wellformed.specs.Inner.Ready.{Ready, index_of}
-use Rattle.check_wellformed.specs.Inner.Tests.{mapped_if, MapsAt, reaches_at, range_kept, kept_at, fits_at, is_clause_at}
+use Rattle.check_wellformed.specs.Inner.Tests.{mapped_if, MapsAt, reaches_at, place_before, range_kept, kept_at, fits_at, is_clause_at}
 use Rattle.format_translation.proofs.Items.{item_facts, mapping_is, numbered_mapping_is, holds_items}
 use Rattle.format_translation.proofs.Uses.{Front}
 use Rattle.check_wellformed.proofs.Source.{source_indexed}
 use Rattle.check_wellformed.proofs.Coded.{clause_at_lem}
 
 -- mapped_if
-module _ (u : List ℕ) (table : List Bool) (k : ℕ) where
-  pub if_none : get_or u (k * 256) 0 ≡ 0 → not (get_or table k false) ≡ mapped_if u table k
-  unfolding mapped_if
-  if_none h = rw (eq-eqb (get_or u (k * 256) 0) 0 h) (go (get_or table k false))
-    where
-      go : (b : Bool) → not b ≡ beq false b
-      go true = refl
-      go false = refl
-
-  pub if_some : (get_or u (k * 256) 0 ≡ 0 → ⊥) → get_or table k false ≡ mapped_if u table k
-  unfolding mapped_if
-  if_some h = rw (ne_eqb (get_or u (k * 256) 0) 0 h) (go (get_or table k false))
-    where
-      go : (b : Bool) → b ≡ beq true b
-      go true = refl
-      go false = refl
+pub marked_if : (u : List ℕ) (table : List Bool) (k : ℕ) → beq (get_or table k false) (not (nat_eq (get_or u (k * 256) 0) 0)) ≡ mapped_if u table k
+unfolding mapped_if
+marked_if u table k = beq_comm (get_or table k false) (not (nat_eq (get_or u (k * 256) 0) 0))
+  where
+    beq_comm : (a b : Bool) → beq a b ≡ beq b a
+    beq_comm true true = refl
+    beq_comm true false = refl
+    beq_comm false true = refl
+    beq_comm false false = refl
 
 -- kinds_mapped
-module _ (f : ℕ → Bool) (k : ℕ) (x : Bool) (inv : all f (count_up (32 - k) k) ≡ x) where
-  pub count_done : 32 ≤ k → true ≡ x
-  unfolding all count_up
-  count_done h = let z : 32 - k ≡ 0 = omega arith in rw z at inv
-
-  module _ (here : k < 32) (b : Bool) (eb : b ≡ f k) where
-    turn : all f (k ∷ count_up (32 - (k + 1)) (k + 1)) ≡ x
-    unfolding count_up
-    turn =
-        let z : 32 - k ≡ suc (32 - (k + 1)) = omega arith in
-        let i : k + 1 ≡ suc k = omega arith in
-        ap (λ (j : ℕ). all f (k ∷ count_up (32 - (k + 1)) j)) i ∙ (rw z at inv)
-
-    pub count_stop : b ≡ false → false ≡ x
-    count_stop h = all_stop f k _ turn (sym eb ∙ h)
-
-    pub count_next : b ≡ true → all f (count_up (32 - (k + 1)) (k + 1)) ≡ x
-    count_next h = all_next f k _ turn (sym eb ∙ h)
+pub all_kinds : (f : ℕ → Bool) → list_all f (range_with_len 0 32) ≡ all f (count_up 32 0)
+unfolding count_up all
+all_kinds f = go (count_up 32 0)
+  where
+    go : (l : List ℕ) → list_all f l ≡ all f l
+    go [] = refl
+    go (k ∷ l) = ap (λ (b : Bool). f k && b) (go l)
 
 -- reaches_at
 module _ (b : List ℕ) (p : ℕ) (marked reached : List Bool) (i : ℕ) (ei : i ≡ get_or b (p + 3) 0) where
@@ -78,37 +64,42 @@ module _ (b : List ℕ) (p : ℕ) (marked reached : List Bool) (i : ℕ) (ei : i
   unfolding reaches_at
   reaches_both h e ee j ej = cc
 
-pub target_below : (b : List ℕ) (p e j n : ℕ) → MapsAt b p → e ≡ field_end b p → j ≡ get_or b (e - 1) 0 → n ≡ 32 → j < n
-target_below b p e j n m ee ej en =
-    let i : j ≡ get_or b (field_end b p - 1) 0 = ej ∙ ap (λ (x : ℕ). get_or b (x - 1) 0) ee in
-    rw (i, en) m.target
-
 -- range_kept
-module _ (s : List ℕ) (place : ℕ) (t : List ℕ) (goal : ℕ) where
-  pub range_free : place ≡ 0 → true ≡ range_kept s place t goal
+module _ (s : List ℕ) (place : Option ℕ) (t : List ℕ) (goal : Option ℕ) where
+  pub range_free : place ≡ None → true ≡ range_kept s place t goal
   unfolding range_kept
-  range_free h = cc
+  range_free h = rw h refl
 
-  pub range_none : (place ≡ 0 → ⊥) → goal ≡ 0 → false ≡ range_kept s place t goal
-  unfolding range_kept
-  range_none h k = cc (ne_eqb place 0 h)
+  module _ {p : ℕ} (ep : place ≡ Some p) where
+    pub range_none : goal ≡ None → false ≡ range_kept s place t goal
+    unfolding range_kept
+    range_none h = rw (ep, h) refl
 
-  pub range_there : (place ≡ 0 → ⊥) → (goal ≡ 0 → ⊥) → (x : Bool) → x ≡ range_within (class_range s (place - 1)) (class_range t (goal - 1))
-      → x ≡ range_kept s place t goal
-  unfolding range_kept
-  range_there h k x ex = cc (ne_eqb place 0 h, ne_eqb goal 0 k)
+    pub range_there : {q : ℕ} → goal ≡ Some q → {x : Bool} → x ≡ range_within (class_range s p) (class_range t q) → x ≡ range_kept s place t goal
+    unfolding range_kept
+    range_there h ex = rw (ep, h) ex
 
 -- class_kept
-pub kept_is : (s is t it b : List ℕ) (p e : ℕ) → e ≡ field_end b p → (i place j goal : ℕ) → i ≡ get_or b (p + 3) 0 → place ≡ get_or is i 0
-    → j ≡ get_or b (e - 1) 0 → goal ≡ get_or it j 0 → (x : Bool) → x ≡ range_kept s place t goal → x ≡ kept_at s is t it b p
+pub kept_is : (s is t it b : List ℕ) (p e : ℕ) → e ≡ field_end b p → (i j : ℕ) {place goal : Option ℕ} → i ≡ get_or b (p + 3) 0 → place ≡ place_before (get_or is i 0)
+    → j ≡ get_or b (e - 1) 0 → goal ≡ place_before (get_or it j 0) → (x : Bool) → x ≡ range_kept s place t goal → x ≡ kept_at s is t it b p
 unfolding kept_at
-kept_is s is t it b p e ee i place j goal ei ep ej eg x ex = cc
+kept_is s is t it b p e ee i j ei ep ej eg x ex = cc
+
+-- What is below a number of an index is the place before it.
+pub before_is : (n : ℕ) (o : Option ℕ) → SomeIff o (1 ≤ n) (n - 1) → o ≡ place_before n
+before_is zero o w = search rules
+before_is (suc n) o w = search rules
 
 -- The place of a class is that of a whole one.
-pub place_in : (it t : List ℕ) → Sound it t → (i k place : ℕ) → i ≡ k → k < 32 → place ≡ get_or it i 0 → 0 < place → IsClass t (place - 1)
-place_in it t z i k place ei h e j =
-    let d : place ≡ get_or it k 0 = e ∙ ap (λ (x : ℕ). get_or it x 0) ei in
-    rw d (z.class k h (rw d at j))
+pub place_in : (it t : List ℕ) → Sound it t → (i k : ℕ) {place : Option ℕ} → i ≡ k → k < 32 → place ≡ place_before (get_or it i 0) → ForSome place (IsClass t)
+place_in it t z i k ei h e = λ p q. go (get_or it k 0) refl p (sym (e ∙ ap (λ (x : ℕ). place_before (get_or it x 0)) ei) ∙ q)
+  where
+    go : (n : ℕ) → get_or it k 0 ≡ n → (p : ℕ) → place_before n ≡ Some p → IsClass t p
+    go zero d p q = cc
+    go (suc n) d p q =
+        let i : n ≡ p = cc in
+        let j : get_or it k 0 - 1 ≡ p = omega arith in
+        rw (← j) (z.class k h (omega arith))
 
 -- The mapping at p, by its place.
 module _ (b : List ℕ) (p : ℕ) (w : item_whole b p ≡ true) where
@@ -195,14 +186,12 @@ items_alike s b e f g same =
     let h = holds_items s b e in
     all_alike (item_whole s) f (item_at s) g same (places s) h.whole ∙ ap (all g) h.items
 
-range_same : (s : List ℕ) (place : ℕ) (t : List ℕ) (goal : ℕ) → range_kept s place t goal ≡ keeps_range (range_before s place) (range_before t goal)
+range_same : (s : List ℕ) (place : ℕ) (t : List ℕ) (goal : ℕ)
+    → range_kept s (place_before place) t (place_before goal) ≡ keeps_range (range_before s place) (range_before t goal)
 unfolding range_kept
 range_same s zero t goal = refl
-range_same s (suc p) t zero = rw (ne_eqb (suc p) 0 (λ h. omega arith))
-range_same s (suc p) t (suc q) =
-    let i : suc p - 1 ≡ p = omega arith in
-    let j : suc q - 1 ≡ q = omega arith in
-    rw (ne_eqb (suc p) 0 (λ h. omega arith), ne_eqb (suc q) 0 (λ h. omega arith), i, j)
+range_same s (suc p) t zero = refl
+range_same s (suc p) t (suc q) = refl
 
 module _ (s t it b u : List ℕ) (f : Translation) (z : Ready s t it b u f) (bytes : (i : ℕ) → get_or s i 0 < 256) where
   -- A kind has an entry by number 0 if it is mapped by it.

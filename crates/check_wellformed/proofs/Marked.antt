@@ -4,42 +4,56 @@ use mathlib.Core.Path.{◌≡◌, refl, sym, ap, ◌∙◌}
 use mathlib.Core.Bool.{Bool, true, false, ◌||◌}
 use mathlib.Core.List.{List, [], ◌∷◌}
 use mathlib.Core.Option.{some}
-use lib.ListN.{length, get_or, set, replicate, length-set, length-replicate, get_or-replicate}
+use lib.ListN.{length, get_or, drop, drop_of_length-le, set, replicate, length-set, length-replicate, get_or-replicate}
 use lib.Seq.{slice, get_or-set_same, get_or-set_other}
 use lib.Dec.{eqb}
-use borrow.Author.Tests.{eq-eqb, ne_eqb, eqb-true, eqb-false}
-use Rattle.format_fields.specs.Lists.{any}
+use borrow.Author.Tests.{eq-eqb, ne_eqb, eqb-true, eqb-false, ltb-true}
+use Rattle.format_fields.specs.Lists.{all, any}
 use Rattle.format_fields.specs.Inner.Places.{field_end, places_from, places}
 use Rattle.format_fields.proofs.Truth.{by_test}
-use Rattle.format_fields.proofs.Lists.{part_done, part_next}
+use Rattle.format_fields.proofs.Lists.{all_true}
+use Rattle.format_fields.proofs.Split.{front}
 use Rattle.format_fields.proofs.Places.{pass_done, pass_next}
 use Rattle.format_language.specs.Language.{Language, mentions, is_in}
-use Rattle.format_language.specs.LanguageFile.{entries_of}
-use Rattle.format_language.specs.Inner.Entries.{entry_at}
+use Rattle.format_language.specs.LanguageFile.{is_kind, entries_of}
+use Rattle.format_language.specs.Inner.Entries.{IsProduction, entry_at}
 use Rattle.tree_reader.specs.Inner.Positions.{mentions_at}
 use Rattle.tree_reader.proofs.Members.{in_is}
+use Rattle.format_translation.proofs.Whole.{arguments_in}
+use Rattle.format_translation.proofs.Found.{cut, cut_is}
 use Rattle.check_wellformed.specs.Inner.Tests.{mark_all, mentioned_at, mark_entries}
 
 -- mark_part
-module _ (s : List ℕ) (q e : ℕ) (kinds x : List Bool) (inv : mark_all kinds (slice q e s) ≡ x) where
-  pub part_marked : e ≤ q → kinds ≡ x
-  unfolding mark_all
-  part_marked h = part_done (mark_all kinds) s q e x inv h
+pub part_kind : (s : List ℕ) (i : ℕ) → all is_kind (drop i s) ≡ true → i < length s → (get_or s i 0 < 32) × (all is_kind (drop (i + 1) s) ≡ true)
+part_kind s i h here =
+    let w = all_true is_kind (get_or s i 0) (drop (i + 1) s) (rw (front s i here) at h) in
+    (ltb-true _ _ w.0, w.1)
 
-  pub part_mark : (more : List Bool) → more ≡ set kinds (get_or s q 0) true → q < e → e ≤ length s → mark_all more (slice (q + 1) e s) ≡ x
+module _ (s : List ℕ) (i : ℕ) (kinds x : List Bool) (inv : mark_all kinds (drop i s) ≡ x) where
+  pub part_marked : length s ≤ i → kinds ≡ x
   unfolding mark_all
-  part_mark more em h k = rw em (part_next (mark_all kinds) s q e x inv h k)
+  part_marked h = rw (drop_of_length-le s {i = i} h) at inv
+
+  pub part_mark : (more : List Bool) → more ≡ set kinds (get_or s i 0) true → i < length s → mark_all more (drop (i + 1) s) ≡ x
+  unfolding mark_all
+  part_mark more em h = rw em (rw (front s i h) at inv)
 
 -- mark_entry
+arguments_cut : (s : List ℕ) (p : ℕ) → IsProduction s p → {e : ℕ} → e ≡ field_end s p → cut s (p + 5) e ≡ slice (p + 5) (field_end s p) s
+arguments_cut s p w {e} ee = let k = arguments_in s p e w ee in cut_is s (p + 5) e k.2 k.3 ∙ ap (λ (x : ℕ). slice (p + 5) x s) ee
+
+pub entry_arguments : (s : List ℕ) (p : ℕ) → IsProduction s p → {e : ℕ} → e ≡ field_end s p → all is_kind (cut s (p + 5) e) ≡ true
+entry_arguments s p w ee = ap (all is_kind) (arguments_cut s p w ee) ∙ w.arguments
+
 module _ (s : List ℕ) (p : ℕ) (kinds more : List Bool) (em : more ≡ set kinds (get_or s (p + 3) 0) true) where
   pub entry_class : get_or s p 0 ≡ 0x11 → more ≡ mark_all kinds (mentioned_at s p)
   unfolding mark_all mentioned_at
   entry_class h = cc (eq-eqb _ _ h)
 
-  pub entry_production : (get_or s p 0 ≡ 0x11 → ⊥) → {e : ℕ} → e ≡ field_end s p → {x : List Bool} → x ≡ mark_all more (slice (p + 5) e s)
+  pub entry_production : (get_or s p 0 ≡ 0x11 → ⊥) → IsProduction s p → {e : ℕ} → e ≡ field_end s p → {x : List Bool} → x ≡ mark_all more (cut s (p + 5) e)
       → x ≡ mark_all kinds (mentioned_at s p)
   unfolding mark_all mentioned_at
-  entry_production h ee ex = cc (ne_eqb _ _ h)
+  entry_production h w ee ex = cc (ne_eqb _ _ h, arguments_cut s p w ee)
 
 -- mark_entries
 module _ (s : List ℕ) (p : ℕ) (kinds x : List Bool) (inv : mark_entries s kinds (places_from s p) ≡ x) where

@@ -7,6 +7,7 @@ use mathlib.Core.Bool.{Bool, true, false}
 use mathlib.Core.List.{List, [], ◌∷◌, ◌++◌, map}
 use native.Mathlib.Omega.{arith}
 use lib.ListN.{length, get_or}
+use Rattle.std.specs.Prelude.{Option, Some, None}
 use lib.Dec.{ltb, leb}
 use borrow.Author.Tests.{eq-eqb, ne_eqb, lt-ltb, ltb-true, leb-true, leb-false}
 use Rattle.format_fields.specs.Lists.{all, concat_map, same_numbers}
@@ -169,9 +170,6 @@ pub record Clearing (b : List ℕ) (m kind key p at to : ℕ) : Type 0 where
   pub same : (l : List ℕ) → same_numbers (clause_keys key (numbers_of (items_from b m) kind) ++ l) (orders_from b p)
       ≡ same_numbers (clause_keys key (numbers_of (items_from b at) kind) ++ l) (orders_from b to)
 
-pub clear_start : (b : List ℕ) (m kind key p : ℕ) → Asked b m kind p → Clearing b m kind key p m p
-clear_start b m kind key p a = record { asked = a; same = λ l. refl }
-
 orders_next : (b : List ℕ) (p : ℕ) → p < length b → orders_from b p ≡ order_at 0x22 b p ∷ orders_from b (field_end b p)
 unfolding orders_from
 orders_next b p h = rw (places_next b p h)
@@ -181,15 +179,16 @@ unfolding orders_from
 orders_done b p h = rw (places_done b p h)
 
 module _ (b : List ℕ) (bytes : (i : ℕ) → get_or b i 0 < 256) (m kind key p at to : ℕ) (z : Clearing b m kind key p at to) where
-  clear_none : numbers_of (items_from b at) kind ≡ [] → Cleared b m kind key p to
+  clear_none : numbers_of (items_from b at) kind ≡ [] → Cleared b m kind key p (Some to)
   unfolding clause_keys
   clear_none e = record {
-    missing = λ h. absurd (omega (arith, z.asked.inside));
-    there = λ h l. rw e at (z.same l);
-    whole = λ h. z.asked.clauses;
+    missing = λ h. cc;
+    there = λ r h l. let i : to ≡ r = cc in rw (← i) (rw e at (z.same l));
+    inside = λ r h. let i : to ≡ r = cc in rw (← i) z.asked.inside;
+    whole = λ r h. let i : to ≡ r = cc in rw (← i) z.asked.clauses;
   }
 
-  pub clear_done : length b ≤ at → Cleared b m kind key p to
+  pub clear_done : length b ≤ at → Cleared b m kind key p (Some to)
   clear_done h = clear_none (numbers_done b bytes kind at h)
 
   module _ (here : at < length b) (order : ℕ) (eo : order ≡ order_at 0x22 b at) where
@@ -201,7 +200,7 @@ module _ (b : List ℕ) (bytes : (i : ℕ) → get_or b i 0 < 256) (m kind key p
     pub order_least : kind * 256 ≤ order
     order_least = rw eo order_from
 
-    pub clear_past : kind * 256 + 256 ≤ order → Cleared b m kind key p to
+    pub clear_past : kind * 256 + 256 ≤ order → Cleared b m kind key p (Some to)
     unfolding items_from
     clear_past h =
         let f = from_rising (order_at 0x22 b) (kind * 256) (places_from b at) z.asked.rises in
@@ -228,19 +227,20 @@ module _ (b : List ℕ) (bytes : (i : ℕ) → get_or b i 0 < 256) (m kind key p
       turn l = rw numbers_are at (z.same l)
 
       missing_all : ((l : List ℕ) → same_numbers (clause_keys key (numbers_of (items_from b m) kind) ++ l) (orders_from b p) ≡ false)
-          → Cleared b m kind key p (length b + 1)
+          → Cleared b m kind key p None
       missing_all h = record {
         missing = λ i l. h l;
-        there = λ i. absurd (omega arith);
-        whole = λ i. absurd (omega arith);
+        there = λ e i. cc;
+        inside = λ e i. cc;
+        whole = λ e i. cc;
       }
 
-      pub clear_short : length b ≤ to → Cleared b m kind key p (length b + 1)
+      pub clear_short : length b ≤ to → Cleared b m kind key p None
       unfolding same_numbers
       clear_short h = missing_all (λ l. turn l ∙ rw (orders_done b to h))
 
       module _ (there : to < length b) (other : ℕ) (et : other ≡ order_at 0x22 b to) where
-        pub clear_other : (other ≡ key * 256 + (order - kind * 256) → ⊥) → Cleared b m kind key p (length b + 1)
+        pub clear_other : (other ≡ key * 256 + (order - kind * 256) → ⊥) → Cleared b m kind key p None
         unfolding same_numbers
         clear_other h =
             let n : key * 256 + (order - kind * 256) ≡ order_at 0x22 b to → ⊥ = λ d. h (et ∙ sym d) in
@@ -338,7 +338,7 @@ module _ (s : List ℕ) (q : ℕ) (b : List ℕ) (p from to m : ℕ) (z : Walk s
         inside = z.inside;
       }
 
-      module _ (key : ℕ) (e-key : key ≡ key_at 0x11 s from) (r : ℕ) (cl : Cleared b n kind key to r) where
+      module _ (key : ℕ) (e-key : key ≡ key_at 0x11 s from) {o : Option ℕ} (cl : Cleared b n kind key to o) where
         -- What the production asks for.
         asked_for : wanted_from s from (items_from b 0) ≡ clause_keys key (numbers_of (items_from b n) kind) ++ wanted_from s (field_end s from) (items_from b 0)
         unfolding wanted_keys
@@ -348,11 +348,11 @@ module _ (s : List ℕ) (q : ℕ) (b : List ℕ) (p from to m : ℕ) (z : Walk s
             wanted_next s from (items_from b 0) here
             ∙ rw (production_is s from is_production, i, e-key, key_of) refl
 
-        pub walk_missing : length b < r → false ≡ keys_match s q b p
+        pub walk_missing : o ≡ None → false ≡ keys_match s q b p
         walk_missing h = sym (cl.missing h (wanted_from s (field_end s from) (items_from b 0))) ∙ (rw asked_for at z.match)
 
-        pub walk_next : r ≤ length b → (e : ℕ) → e ≡ field_end s from → Walk s q b p e r n
-        walk_next h e ee =
+        pub walk_next : (r : ℕ) → o ≡ Some r → (e : ℕ) → e ≡ field_end s from → Walk s q b p e r n
+        walk_next r h e ee =
             let y = entry_in in
             let i : 32 + kind * 256 ≤ suc (key_at 0x11 s from) = omega (arith, key_of, ek) in
             record {
@@ -362,9 +362,9 @@ module _ (s : List ℕ) (q : ℕ) (b : List ℕ) (p from to m : ℕ) (z : Walk s
               mappings = skip_rest 0x22 (kind * 256) b m n sk (item_whole b) z.mappings;
               rises = from_weaken (order_at 0x22 b) (places_from b n) (omega arith) (rest_keys 0x22 (kind * 256) b m n sk z.rises);
               ahead = λ k l. sym (numbers_skip b bytes k m n (kind * 256) sk (omega arith) z.mappings) ∙ z.ahead k (omega (arith, kind_least));
-              clauses = cl.whole h;
-              inside = h;
-              match = rw ee (sym (cl.there h (wanted_from s (field_end s from) (items_from b 0))) ∙ (rw asked_for at z.match));
+              clauses = cl.whole r h;
+              inside = cl.inside r h;
+              match = rw ee (sym (cl.there r h (wanted_from s (field_end s from) (items_from b 0))) ∙ (rw asked_for at z.match));
             }
 
 -- What the walk says of the translation.

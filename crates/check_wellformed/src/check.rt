@@ -8,15 +8,16 @@ ghost use Rattle.format_translation.specs.TranslationFile.{body_of, all_rising};
 ghost use Rattle.format_translation.specs.WellFormed.{well_formed};
 ghost use Rattle.format_translation.specs.Inner.ItemIndex.{Mapped};
 ghost use Rattle.format_translation.specs.Inner.Pieces.{Pieces};
-ghost use Rattle.check_wellformed.specs.Inner.Ready.{Ready, uses_room, indexes_length};
+ghost use Rattle.check_wellformed.specs.Inner.Ready.{Ready, Holds, uses_room, indexes_length};
 
 use super::clauses::clauses_match;
 use super::codes::codes_typed;
 use super::mapping::mapping_fits;
+use super::parts::Parts;
 use format_fields::walk::{KINDS, MAPPING, NAMES, skip_below};
 use format_language::entries::{ARGUMENTS, CLASS};
 use format_translation::index::put_uses;
-use outcome::{Answer, Reason, accept, refuse};
+use outcome::{Outcome, Reason};
 use tree_reader::index::{INDEX, build, put_index};
 use tree_reader::node::USES;
 
@@ -34,29 +35,22 @@ const CLAUSES: usize = PRODUCTIONS * NAMES;
 
 // The three parts, with the index of the target and what kinds map to by number, are well formed: 5 to 7. What kinds map to
 // stays.
-fn check_conditions(
-    source: &[u8],
-    target: &[u8],
-    targets: &[u16],
-    body: &[u8],
-    uses: &mut [u8],
-) -> Answer
-    requires { (f : Translation) × Ready source.now target.now targets.now body.now uses.old f }
-    ensures { (f : Translation) → Ready source.now target.now targets.now body.now uses.old f
-        → (result.outcome ≡ checked (well_formed f)) × Mapped uses.new f.body }
+fn check_conditions(parts: &Parts, uses: &mut [u8]) -> Outcome
+    requires { (f : Translation) × Holds parts.now uses.old f }
+    ensures { (f : Translation) → Holds parts.now uses.old f → (result ≡ checked (well_formed f)) × Mapped uses.new f.body }
 {
-    if !mapping_fits(source, target, targets, body, uses) {
-        return refuse(Reason::WrongMapping);
+    if !mapping_fits(parts, uses) {
+        return Err(Reason::WrongMapping);
     }
-    let q = skip_below(source, 0, CLASS, PRODUCTIONS);
-    let p = skip_below(body, 0, MAPPING, CLAUSES);
-    if !clauses_match(source, q, body, p) {
-        return refuse(Reason::WrongClauses);
+    let q = skip_below(parts.source, 0, CLASS, PRODUCTIONS);
+    let p = skip_below(parts.body, 0, MAPPING, CLAUSES);
+    if !clauses_match(parts.source, q, parts.body, p) {
+        return Err(Reason::WrongClauses);
     }
-    if !codes_typed(source, q, target, targets, body, p, uses) {
-        return refuse(Reason::IllegalCode);
+    if !codes_typed(parts, q, p, uses) {
+        return Err(Reason::IllegalCode);
     }
-    accept(0)
+    Ok(0)
 }
 
 // The same, with the index of the target behind that of the source in one table.
@@ -66,12 +60,19 @@ fn check_parted(
     body: &[u8],
     indexes: &[u16],
     uses: &mut [u8],
-) -> Answer
+) -> Outcome
     requires { (index_length ≤ length indexes.now) × ((f : Translation) × Ready source.now target.now (drop index_length indexes.now) body.now uses.old f) }
     ensures { (f : Translation) → Ready source.now target.now (drop index_length indexes.now) body.now uses.old f
-        → (result.outcome ≡ checked (well_formed f)) × Mapped uses.new f.body }
+        → (result ≡ checked (well_formed f)) × Mapped uses.new f.body }
 {
-    check_conditions(source, target, &indexes[INDEX..], body, uses)
+    let targets = &indexes[INDEX..];
+    let parts = Parts {
+        source,
+        target,
+        targets,
+        body,
+    };
+    check_conditions(&parts, uses)
 }
 
 // Puts what kinds map to by number into uses that are all zero, and leaves room behind it.
@@ -90,11 +91,11 @@ pub fn check_and_index(
     body: &[u8],
     indexes: &mut [u16],
     uses: &mut [u8],
-) -> Answer
+) -> Outcome
     requires { (length indexes.old ≡ indexes_length) × ((j : ℕ) → get_or indexes.old j 0 ≡ 0) × (length uses.old ≡ uses_room) × ((j : ℕ) → get_or uses.old j 0 ≡ 0)
         × ((f : Translation) × Pieces source.now target.now body.now f × (all_rising f ≡ true)) }
     ensures is { (f : Translation) → Pieces source.now target.now body.now f → all_rising f ≡ true
-        → result.outcome ≡ checked (well_formed f) }
+        → result ≡ checked (well_formed f) }
     ensures kept { (length indexes.new ≡ indexes_length) × Built 0x11 source.now indexes.new 0 × Built 0x11 target.now indexes.new index_length
         × ((f : Translation) → Pieces source.now target.now body.now f → all_rising f ≡ true → Mapped uses.new f.body) }
 {
@@ -105,14 +106,20 @@ pub fn check_and_index(
 }
 
 // The same, with tables of its own; it needs the index of the target only.
-pub fn check_well_formed(source: &[u8], target: &[u8], body: &[u8]) -> Answer
+pub fn check_well_formed(source: &[u8], target: &[u8], body: &[u8]) -> Outcome
     requires { (f : Translation) × Pieces source.now target.now body.now f × (all_rising f ≡ true) }
     ensures { (f : Translation) → Pieces source.now target.now body.now f → all_rising f ≡ true
-        → result.outcome ≡ checked (well_formed f) }
+        → result ≡ checked (well_formed f) }
 {
     let mut targets = [0u16; INDEX];
     build(target, &mut targets);
     let mut uses = [0u8; USES_ROOM];
     fill_uses(body, &mut uses);
-    check_conditions(source, target, &targets, body, &mut uses)
+    let parts = Parts {
+        source,
+        target,
+        targets: &targets,
+        body,
+    };
+    check_conditions(&parts, &mut uses)
 }

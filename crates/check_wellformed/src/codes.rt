@@ -13,17 +13,18 @@ ghost use Rattle.format_translation.specs.Translation.{Translation};
 ghost use Rattle.format_translation.specs.Running.{whole_code, code_levels};
 ghost use Rattle.format_translation.specs.WellFormed.{code_fits};
 ghost use Rattle.format_translation.specs.Inner.Items.{item_at};
-ghost use Rattle.check_wellformed.specs.Inner.Ready.{Ready, index_of, uses_room};
-ghost use Rattle.check_wellformed.specs.Inner.Tests.{ends_at, is_clause_at, ClauseAt, Behind};
+ghost use Rattle.check_wellformed.specs.Inner.Ready.{Holds, index_of, uses_room};
+ghost use Rattle.check_wellformed.specs.Inner.Tests.{is_clause_at, ClauseAt, Behind};
 
 use super::clauses::place_of;
-use format_fields::copy::{Stored, put};
+use super::parts::Parts;
+use format_fields::copy::put;
 use format_fields::walk::{MAPPING, skip_below, whole_end, whole_key};
 use format_language::entries::CLASS;
 use format_translation::clause::{clause_number, code_start};
 use format_translation::index::mapped_by;
-use tree_reader::node::{Read, USES};
-use tree_reader::operands::{first_operand, last_operand};
+use tree_reader::node::USES;
+use tree_reader::operands::operands_of;
 use tree_reader::read::{CODE_LEVELS, read_code};
 
 // Puts the kinds of the arguments of the production of this key behind the uses of the mappings, and says where they end.
@@ -33,100 +34,63 @@ fn put_arguments(source: &[u8], q: usize, key: usize, uses: &mut [u8]) -> usize
         × RisingEntries source.now × Skipped 0x11 key source.now 0 q }
     ensures { Behind uses.old uses.new (Option.get_or (arguments_before source.now (get_or (index_of source.now) key 0)) []) result }
 {
-    let place = place_of(source, q, key);
-    if place == 0 {
-        return USES;
-    }
-    let first = first_operand(place);
-    let last = last_operand(source, place);
-    if last <= first {
-        return USES;
-    }
-    let Stored::To(end) = put(source, first, last, uses, USES) else {
+    let Some(p) = place_of(source, q, key) else {
         return USES;
     };
-    end
-}
-
-// What was read ends at n.
-fn ends_at(read: Read, n: usize) -> bool
-    ensures { result ≡ ends_at read n }
-{
-    match read {
-        Read::End(e) => e == n,
-        Read::Deep => false,
-        Read::Broken => false,
+    let arguments = operands_of(source, p + 1);
+    if arguments.last <= arguments.first {
+        return USES;
     }
+    put(source, arguments.first, arguments.last, uses, USES).unwrap()
 }
 
 // The code from p up to e, with nothing after it, is of the kind; it has these uses.
-fn code_reads(
-    target: &[u8],
-    targets: &[u16],
-    uses: &[u8],
-    kind: u8,
-    body: &[u8],
-    p: usize,
-    e: usize,
-) -> bool
-    requires { (p ≤ e) × (e ≤ length body.now) × (kind < 32) × Sound targets.now target.now }
-    ensures { (l : Language) → Indexed targets.now target.now l
-        → result ≡ is_some (whole_code (read_code code l (uses_in uses.now) code_levels kind (slice p e body.now))) }
+fn code_reads(parts: &Parts, uses: &[u8], kind: u8, p: usize, e: usize) -> bool
+    requires { (p ≤ e) × (e ≤ length parts.now.body.now) × (kind < 32) × Sound parts.now.targets.now parts.now.target.now }
+    ensures { (l : Language) → Indexed parts.now.targets.now parts.now.target.now l
+        → result ≡ is_some (whole_code (read_code code l (uses_in uses.now) code_levels kind (slice p e parts.now.body.now))) }
 {
-    let end = read_code(target, targets, uses, kind, &body[p..e], 0, CODE_LEVELS);
-    ends_at(end, e - p)
+    let code = &parts.body[p..e];
+    let end = read_code(
+        parts.target,
+        parts.targets,
+        uses,
+        kind,
+        code,
+        0,
+        CODE_LEVELS,
+    );
+    end == Ok(e - p)
 }
 
 // The code of the clause from p up to e is of the kind that its result maps to by its number. The kinds of the arguments
 // are left behind the uses of the mappings. Its production, if there is one, stands at q.
-fn code_typed(
-    source: &[u8],
-    q: usize,
-    target: &[u8],
-    targets: &[u16],
-    body: &[u8],
-    p: usize,
-    e: usize,
-    uses: &mut [u8],
-) -> bool
-    requires { (e ≡ field_end body.now p) × ClauseAt body.now p × Skipped 0x11 (key_at 0x22 body.now p) source.now 0 q × ((f : Translation) × Ready source.now target.now targets.now body.now uses.old f) }
-    ensures { (f : Translation) → Ready source.now target.now targets.now body.now uses.old f
-        → (result ≡ code_fits f (item_at body.now p)) × Ready source.now target.now targets.now body.now uses.new f }
+fn code_typed(parts: &Parts, q: usize, p: usize, e: usize, uses: &mut [u8]) -> bool
+    requires { (e ≡ field_end parts.now.body.now p) × ClauseAt parts.now.body.now p × Skipped 0x11 (key_at 0x22 parts.now.body.now p) parts.now.source.now 0 q
+        × ((f : Translation) × Holds parts.now uses.old f) }
+    ensures { (f : Translation) → Holds parts.now uses.old f → (result ≡ code_fits f (item_at parts.now.body.now p)) × Holds parts.now uses.new f }
 {
+    let body = parts.body;
     let kind = mapped_by(uses, body[p + 3], clause_number(body, p));
-    let end = put_arguments(source, q, whole_key(body, p, MAPPING), uses);
-    code_reads(
-        target,
-        targets,
-        &uses[..end],
-        kind,
-        body,
-        code_start(body, p),
-        e,
-    )
+    let end = put_arguments(parts.source, q, whole_key(body, p, MAPPING), uses);
+    code_reads(parts, &uses[..end], kind, code_start(body, p), e)
 }
 
 // Every code fits, of the clauses from p on; the productions of the source stand from q on. Both stand by rising key, so that
 // the production of a clause is found beside it. What kinds map to stays.
-pub fn codes_typed(
-    source: &[u8],
-    q: usize,
-    target: &[u8],
-    targets: &[u16],
-    body: &[u8],
-    p: usize,
-    uses: &mut [u8],
-) -> bool
-    requires { (all (is_clause_at body.now) (places_from body.now p) ≡ true) × Skipped 0x11 32 source.now 0 q × Skipped 0x22 8192 body.now 0 p × ((f : Translation) × Ready source.now target.now targets.now body.now uses.old f) }
-    ensures { (f : Translation) → Ready source.now target.now targets.now body.now uses.old f
-        → (result ≡ all (λ x. code_fits f (item_at body.now x)) (places_from body.now p)) × Ready source.now target.now targets.now body.now uses.new f }
+pub fn codes_typed(parts: &Parts, q: usize, p: usize, uses: &mut [u8]) -> bool
+    requires { (all (is_clause_at parts.now.body.now) (places_from parts.now.body.now p) ≡ true) × Skipped 0x11 32 parts.now.source.now 0 q × Skipped 0x22 8192 parts.now.body.now 0 p
+        × ((f : Translation) × Holds parts.now uses.old f) }
+    ensures { (f : Translation) → Holds parts.now uses.old f
+        → (result ≡ all (λ x. code_fits f (item_at parts.now.body.now x)) (places_from parts.now.body.now p)) × Holds parts.now uses.new f }
 {
+    let body = parts.body;
     let mut from = q;
     let mut to = p;
     while to < body.len() {
-        from = skip_below(source, from, CLASS, whole_key(body, to, MAPPING));
+        from = skip_below(parts.source, from, CLASS, whole_key(body, to, MAPPING));
         let e = whole_end(body, to);
-        if !code_typed(source, from, target, targets, body, to, e, uses) {
+        if !code_typed(parts, from, to, e, uses) {
             return false;
         }
         to = e;

@@ -1,13 +1,11 @@
 // The table of the kinds that are in a language.
-ghost use Rattle.std.specs.Prelude.{◌≡◌, true, ◌+◌, ◌<◌, ◌≤◌, length, set};
-ghost use Rattle.std.proofs.Math.Seq.{slice};
+ghost use Rattle.std.specs.Prelude.{◌≡◌, true, ◌<◌, length, set};
 ghost use Rattle.format_fields.specs.Lists.{all};
 ghost use Rattle.format_fields.specs.Inner.Places.{places, field_end};
+ghost use Rattle.format_language.specs.LanguageFile.{is_kind};
 ghost use Rattle.format_language.specs.Inner.Entries.{entry_whole};
-ghost use Rattle.tree_reader.specs.Inner.Positions.{KindsIn};
 ghost use Rattle.check_wellformed.specs.Inner.Tests.{mark_all, mentioned_at, mark_entries};
 
-use format_fields::bytes::to_usize;
 use format_fields::walk::whole_end;
 use format_language::entries::CLASS;
 
@@ -16,18 +14,16 @@ fn mark(kinds: &mut [bool], kind: u8)
     requires { kind < length kinds.old }
     ensures { kinds.new ≡ set kinds.old kind true }
 {
-    kinds[to_usize(kind)] = true;
+    kinds[usize::from(kind)] = true;
 }
 
-// Marks the kinds that stand from p up to e.
-fn mark_part(s: &[u8], p: usize, e: usize, kinds: &mut [bool])
-    requires { KindsIn s.now p e × (e ≤ length s.now) × (length kinds.old ≡ 32) }
-    ensures { kinds.new ≡ mark_all kinds.old (slice p e s.now) }
+// Marks the kinds in a part of a language.
+fn mark_part(part: &[u8], kinds: &mut [bool])
+    requires { (all is_kind part.now ≡ true) × (length kinds.old ≡ 32) }
+    ensures { kinds.new ≡ mark_all kinds.old part.now }
 {
-    let mut q = p;
-    while q < e {
-        mark(kinds, s[q]);
-        q += 1;
+    for kind in part {
+        mark(kinds, *kind);
     }
 }
 
@@ -40,7 +36,7 @@ fn mark_entry(s: &[u8], p: usize, e: usize, kinds: &mut [bool])
     if s[p] == CLASS {
         return;
     }
-    mark_part(s, p + 5, e, kinds);
+    mark_part(&s[p + 5..e], kinds);
 }
 
 // Marks every kind that is in the language.

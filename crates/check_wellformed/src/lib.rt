@@ -6,3 +6,4 @@ pub mod clauses;
 pub mod codes;
 pub mod kinds;
 pub mod mapping;
+pub mod parts;

@@ -1,6 +1,6 @@
 -- A law for each return and each turn of `is_card`, `contents` and `read_card`.
 use Prim.Native.Nat.{ℕ, suc, ◌+◌, ◌-◌, ◌^◌, ◌<◌, ◌≤◌}
-use mathlib.Core.Path.{◌≡◌, refl, sym, ap, ◌∙◌}
+use mathlib.Core.Path.{◌≡◌, refl, sym, ap, ◌∙◌, subst}
 use mathlib.Core.Bool.{Bool, true, false, cond, not, ◌&&◌, ◌||◌}
 use mathlib.Core.List.{List, [], ◌∷◌}
 use mathlib.Core.Option.{Option, none, some}
@@ -14,20 +14,15 @@ use Rattle.format_fields.specs.Fields.{Field, pair_at, fields_of}
 use Rattle.format_fields.specs.Inner.Places.{field_end, field_at}
 use Rattle.format_fields.specs.Lists.{all, any, before}
 use Rattle.format_fields.specs.Keyed.{rising_from, rising}
-use Rattle.format_fields.proofs.Truth.{false_true, by_test, both_and, and_both}
+use Rattle.format_fields.proofs.Truth.{false_true, by_test, and_both}
 use Rattle.format_fields.proofs.Split.{front, fields_done, fields_next, fields_cut}
-use Rattle.outcome.specs.Outcome.{value, refused, refuse_if, checked}
-use Rattle.outcome.specs.declared.Outcome.TheVariants.{Accepted, Refused}
+use Rattle.outcome.specs.Outcome.{Result, value, refused, refuse_if, Outcome}
+use Rattle.std.specs.Prelude.{Ok, Err}
 use Rattle.outcome.specs.declared.Reason.{Reason}
 use Rattle.outcome.specs.declared.Reason.TheVariants.{BrokenField, OutOfOrder}
-use Rattle.format_fields.proofs.Codec.{refused_value, value_inj}
 use Rattle.format_language.specs.LanguageFile.{is_kind}
-use Rattle.format_card.specs.Card.{sees, card_in, card_of}
-use Rattle.format_card.specs.declared.read.Seen.{Seen}
-use Rattle.format_card.specs.declared.read.Kinds.{Kinds}
-use Rattle.format_card.specs.declared.read.Kinds.TheVariants.{Set, Broken, Unordered}
-use Rattle.format_card.specs.Inner.Sets.{in_set, Holds, Scans, Reads, is_card}
-use Rattle.format_card.proofs.Refusals.{not_accepted}
+use Rattle.format_card.specs.Card.{Card, sees, card_in, card_of}
+use Rattle.format_card.specs.Inner.Sets.{in_set, Holds, Reads, is_card, card_with}
 use Rattle.format_card.proofs.Sets.{no_bit, put_bit, put_small}
 
 -- is_card
@@ -47,33 +42,33 @@ module _ (s : List ℕ) where
 
 -- contents, a turn at a time.
 pub record Going (s : List ℕ) (kinds least : ℕ) (up : Bool) (i : ℕ) : Type 0 where
-  pub low : 3 ≤ i
-  pub inside : i ≤ length s
-  pub only : all is_kind (drop 3 s) ≡ all is_kind (drop i s)
-  pub order : rising_from (λ k. k) 0 (drop 3 s) ≡ (up && rising_from (λ k. k) least (drop i s))
-  pub holds : up ≡ true → (k : ℕ) → (in_set kinds k || sees (drop i s) k) ≡ sees (drop 3 s) k
+  pub only : all is_kind s ≡ all is_kind (drop i s)
+  pub order : rising_from (λ k. k) 0 s ≡ (up && rising_from (λ k. k) least (drop i s))
+  pub holds : up ≡ true → (k : ℕ) → (in_set kinds k || sees (drop i s) k) ≡ sees s k
   pub small : kinds < 2 ^ least
   pub narrow : least ≤ 32
 
-pub going_start : (s : List ℕ) → 3 ≤ length s → Going s 0 0 true 3
-going_start s h = record {
-  low = omega arith;
-  inside = h;
+pub going_start : (s : List ℕ) → Going s 0 0 true 0
+going_start s = record {
   only = refl;
   order = refl;
-  holds = λ e k. ap (λ (b : Bool). b || sees (drop 3 s) k) (no_bit 0 k (pow_pos k));
+  holds = λ e k. ap (λ (b : Bool). b || sees s k) (no_bit 0 k (pow_pos k));
   small = omega arith;
   narrow = omega arith;
 }
 
-not_broken : {kinds : ℕ} {A : Type 0} → Set kinds ≡ Broken → A
-not_broken e = let z : ◌≡◌ {A = ℕ} 0 1 = cc in absurd (omega arith)
+-- What a refusal and a set say.
+pub reads_refused : {m : Result Card} {x : Reason} → m ≡ refused x → Reads m (Err x)
+reads_refused e = record {
+  holds = λ kinds q. cc;
+  refuses = λ reason q. cc;
+}
 
-not_unordered : {kinds : ℕ} {A : Type 0} → Set kinds ≡ Unordered → A
-not_unordered e = let z : ◌≡◌ {A = ℕ} 0 1 = cc in absurd (omega arith)
-
-not_each : {A : Type 0} → Broken ≡ Unordered → A
-not_each e = let z : ◌≡◌ {A = ℕ} 0 1 = cc in absurd (omega arith)
+reads_set : {m : Result Card} {card : Card} {kinds : ℕ} → m ≡ value card → Holds kinds card → Reads m (Ok kinds)
+reads_set {card = card} {kinds = kinds} e h = record {
+  holds = λ n q. let i : kinds ≡ n = cc in (card, e, rw (← i) h);
+  refuses = λ reason q. cc;
+}
 
 and_false : (b : Bool) → (b && false) ≡ false
 and_false true = refl
@@ -84,20 +79,19 @@ or_assoc true b d = refl
 or_assoc false b d = refl
 
 module _ (s : List ℕ) {kinds least : ℕ} {up : Bool} {i : ℕ} (g : Going s kinds least up i) where
-  module _ (more : i < length s) {kind : ℕ} (ek : kind ≡ get_or s i 0) where
-    head : drop i s ≡ kind ∷ drop (i + 1) s
-    head = front s i more ∙ ap (λ (k : ℕ). k ∷ drop (i + 1) s) (sym ek)
+  module _ (more : i < length s) where
+    abbrev kind : ℕ
+    kind = get_or s i 0
 
     no_kind : 32 ≤ kind → all is_kind (kind ∷ drop (i + 1) s) ≡ false
     unfolding all
     no_kind h = rw (le-ltb kind 32 h) refl
 
-    pub going_broken : 32 ≤ kind → Scans (drop 3 s) Broken
-    going_broken h = record {
-      broken = λ e. g.only ∙ (ap (all is_kind) head ∙ no_kind h);
-      unordered = λ e. not_each e;
-      set = λ n e. not_broken (sym e);
-    }
+    pub going_broken : 32 ≤ kind → Reads (card_with s) (Err BrokenField)
+    unfolding card_with
+    going_broken h =
+        let e : all is_kind s ≡ false = g.only ∙ (ap (all is_kind) (front s i more) ∙ no_kind h) in
+        reads_refused (rw e refl)
 
     module _ (small : kind < 32) where
       one_kind : all is_kind (kind ∷ drop (i + 1) s) ≡ all is_kind (drop (i + 1) s)
@@ -105,7 +99,7 @@ module _ (s : List ℕ) {kinds least : ℕ} {up : Bool} {i : ℕ} (g : Going s k
       one_kind = rw (lt-ltb kind 32 small) refl
 
       passed : all is_kind (drop i s) ≡ all is_kind (drop (i + 1) s)
-      passed = ap (all is_kind) head ∙ one_kind
+      passed = ap (all is_kind) (front s i more) ∙ one_kind
 
       falls : kind < least → rising_from (λ k. k) least (kind ∷ drop (i + 1) s) ≡ false
       unfolding rising_from
@@ -117,34 +111,25 @@ module _ (s : List ℕ) {kinds least : ℕ} {up : Bool} {i : ℕ} (g : Going s k
 
       seen : (k : ℕ) → sees (drop i s) k ≡ (eqb kind k || sees (drop (i + 1) s) k)
       unfolding sees any
-      seen k = ap (λ (l : List ℕ). any (λ a. eqb a k) l) head
+      seen k = ap (λ (l : List ℕ). any (λ a. eqb a k) l) (front s i more)
 
       below : least ≤ kind → kinds < 2 ^ kind
       below h = let m : 2 ^ least ≤ 2 ^ kind = pow_mono h in omega (arith, g.small)
 
       pub going_unordered : {kinds' least' : ℕ} {up' : Bool} → kind < least → kinds' ≡ kinds → least' ≡ least → up' ≡ false → Going s kinds' least' up' (i + 1)
       going_unordered h ea eb eu = rw (ea, eb, eu) (record {
-        low = omega (arith, g.low);
-        inside = omega arith;
         only = g.only ∙ passed;
-        order = g.order ∙ (ap (λ (l : List ℕ). up && rising_from (λ k. k) least l) head ∙ (ap (λ (b : Bool). up && b) (falls h) ∙ and_false up));
+        order = g.order ∙ (ap (λ (l : List ℕ). up && rising_from (λ k. k) least l) (front s i more) ∙ (ap (λ (b : Bool). up && b) (falls h) ∙ and_false up));
         holds = λ e. false_true e;
         small = g.small;
         narrow = g.narrow;
       })
 
-      pub going_fits : {one : ℕ} → least ≤ kind → one ≡ 2 ^ kind → kinds + one < 2 ^ 32
-      going_fits h eo =
-          let m : 2 ^ (kind + 1) ≤ 2 ^ 32 = pow_mono {i = kind + 1} {j = 32} (omega arith) in
-          omega (arith, put_small kinds kind (below h), eo)
-
       pub going_next : {one kinds' least' : ℕ} {up' : Bool} → least ≤ kind → one ≡ 2 ^ kind → kinds' ≡ kinds + one → least' ≡ kind + 1 → up' ≡ up
           → Going s kinds' least' up' (i + 1)
       going_next h eo ea eb eu = rw (ea, eb, eu, eo) (record {
-        low = omega (arith, g.low);
-        inside = omega arith;
         only = g.only ∙ passed;
-        order = g.order ∙ (ap (λ (l : List ℕ). up && rising_from (λ k. k) least l) head ∙ ap (λ (b : Bool). up && b) (rises h));
+        order = g.order ∙ (ap (λ (l : List ℕ). up && rising_from (λ k. k) least l) (front s i more) ∙ ap (λ (b : Bool). up && b) (rises h));
         holds = λ e k. ap (λ (b : Bool). b || sees (drop (i + 1) s) k) (put_bit kinds kind (below h) k)
             ∙ (or_assoc (in_set kinds k) (eqb kind k) (sees (drop (i + 1) s) k)
             ∙ (ap (λ (b : Bool). in_set kinds k || b) (sym (seen k)) ∙ g.holds e k));
@@ -156,11 +141,11 @@ module _ (s : List ℕ) {kinds least : ℕ} {up : Bool} {i : ℕ} (g : Going s k
     nothing : drop i s ≡ []
     nothing = drop_of_length-le s {i = i} end
 
-    all_kinds : all is_kind (drop 3 s) ≡ true
+    all_kinds : all is_kind s ≡ true
     unfolding all
     all_kinds = g.only ∙ ap (all is_kind) nothing
 
-    ordered : rising (λ k. k) (drop 3 s) ≡ (up && true)
+    ordered : rising (λ k. k) s ≡ (up && true)
     unfolding rising rising_from
     ordered = g.order ∙ ap (λ (l : List ℕ). up && rising_from (λ k. k) least l) nothing
 
@@ -172,22 +157,18 @@ module _ (s : List ℕ) {kinds least : ℕ} {up : Bool} {i : ℕ} (g : Going s k
         go true = refl
         go false = refl
 
-    held : up ≡ true → Holds kinds (drop 3 s)
+    held : up ≡ true → Holds kinds s
     held e k = sym (none_left k) ∙ (ap (λ (l : List ℕ). in_set kinds k || sees l k) (sym nothing) ∙ g.holds e k)
 
-    pub going_fails : up ≡ false → Scans (drop 3 s) Unordered
-    going_fails e = record {
-      broken = λ q. not_each (sym q);
-      unordered = λ q. (all_kinds, ordered ∙ ap (λ (b : Bool). b && true) e);
-      set = λ n q. not_unordered (sym q);
-    }
+    comes_to : {b : Bool} → up ≡ b → card_with s ≡ refuse_if (not (b && true)) OutOfOrder (value s)
+    unfolding card_with
+    comes_to e = rw (all_kinds, ordered, e) refl
 
-    pub going_done : up ≡ true → Scans (drop 3 s) (Set kinds)
-    going_done e = record {
-      broken = λ q. not_broken q;
-      unordered = λ q. not_unordered q;
-      set = λ n q. let w : kinds ≡ n = cc in (all_kinds, ordered ∙ ap (λ (b : Bool). b && true) e, rw (← w) (held e));
-    }
+    pub going_fails : up ≡ false → Reads (card_with s) (Err OutOfOrder)
+    going_fails e = reads_refused (comes_to e)
+
+    pub going_done : up ≡ true → Reads (card_with s) (Ok kinds)
+    going_done e = reads_set (comes_to e) (held e)
 
 -- What a card comes to, by its first bytes and its contents.
 none_two : (f g : Field) (o : Option (List Field)) → card_in (before (some f) (before (some g) o)) ≡ none
@@ -253,43 +234,19 @@ module _ (s : List ℕ) where
 
 -- read_card
 module _ (s : List ℕ) where
-  of_broken : (is_card s && all is_kind (drop 3 s)) ≡ false → card_of s ≡ refused BrokenField
+  pub card_broken : is_card s ≡ false → card_of s ≡ refused BrokenField
   unfolding card_of
-  of_broken h = rw (card_is s, h) refl
-
-  of_card : (is_card s && all is_kind (drop 3 s)) ≡ true → card_of s ≡ refuse_if (not (rising (λ k. k) (drop 3 s))) OutOfOrder (value (drop 3 s))
-  unfolding card_of
-  of_card h = rw (card_is s, h) refl
-
-  refused_reads : {x : Reason} {r : Seen} → card_of s ≡ refused x → r.outcome ≡ Refused x → r.kinds ≡ 0 → Reads (card_of s) r
-  refused_reads {x} e o k = record {
-    outcome = o ∙ sym (ap checked e);
-    holds = λ card q. refused_value (sym e ∙ q);
-    none = λ reason q. k;
-  }
-
-  pub reads_broken : {r : Seen} → is_card s ≡ false → r.outcome ≡ Refused BrokenField → r.kinds ≡ 0 → Reads (card_of s) r
-  reads_broken h = refused_reads (of_broken (ap (λ (b : Bool). b && all is_kind (drop 3 s)) h))
+  card_broken h = rw (card_is s, h) refl
 
   pub card_long : is_card s ≡ true → 3 ≤ length s
   unfolding is_card
   card_long h = leb-true _ _ (and_both (leb 3 (length s)) (eqb (get_or s 0 0) 0x27 && eqb (pair_at s 1) (length s - 3)) h).0
 
-  module _ (is : is_card s ≡ true) {x : Kinds} (w : Scans (drop 3 s) x) where
-    pub reads_no_kind : {r : Seen} → x ≡ Broken → r.outcome ≡ Refused BrokenField → r.kinds ≡ 0 → Reads (card_of s) r
-    reads_no_kind e = refused_reads (of_broken (rw (is, w.broken e) refl))
+  pub card_held : is_card s ≡ true → card_with (take (length s - 3) (drop 3 s)) ≡ card_of s
+  unfolding card_of card_with
+  card_held h =
+      let c : take (length s - 3) (drop 3 s) ≡ drop 3 s = take_all (length s - 3) (drop 3 s) (simp length-drop (omega arith)) in
+      rw (c, card_is s, h) refl
 
-    pub reads_unordered : {r : Seen} → x ≡ Unordered → r.outcome ≡ Refused OutOfOrder → r.kinds ≡ 0 → Reads (card_of s) r
-    reads_unordered e =
-        let u = w.unordered e in
-        refused_reads (of_card (both_and _ _ is u.0) ∙ ap (λ (b : Bool). refuse_if (not b) OutOfOrder (value (drop 3 s))) u.1)
-
-    pub reads_set : {kinds : ℕ} → x ≡ Set kinds → Reads (card_of s) (record { outcome = Accepted 0; kinds = kinds })
-    reads_set {kinds} e =
-        let u = w.set kinds e in
-        let v : card_of s ≡ value (drop 3 s) = of_card (both_and _ _ is u.0) ∙ ap (λ (b : Bool). refuse_if (not b) OutOfOrder (value (drop 3 s))) u.1 in
-        record {
-          outcome = sym (ap checked v);
-          holds = λ card q. let z : drop 3 s ≡ card = value_inj (sym v ∙ q) in rw (← z) u.2;
-          none = λ reason q. not_accepted q;
-        }
+pub reads_as : {m n : Result Card} {r : Outcome} → m ≡ n → Reads m r → Reads n r
+reads_as {r = r} e w = subst (λ (x : Result Card). Reads x r) e w

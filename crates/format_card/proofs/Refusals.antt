@@ -1,4 +1,5 @@
 -- The lowest of two refusals: a law for each return of `lowest`, and what it says of a card that is handed in with something else.
+use Rattle.std.specs.Prelude.{Err, Ok}
 use Prim.Native.Nat.{ℕ, ◌<◌, ◌≤◌}
 use mathlib.Core.Path.{◌≡◌, refl, sym, ap, ◌∙◌}
 use mathlib.Core.Bool.{Bool, true, false, cond, not}
@@ -8,23 +9,18 @@ use native.Mathlib.Omega.{arith}
 use borrow.Author.Tests.{le-leb, lt-leb}
 use Rattle.format_fields.specs.Fields.{fields_of}
 use Rattle.format_fields.specs.Keyed.{rising}
-use Rattle.outcome.specs.Outcome.{Result, value, refused, refuse_if, ◌>>=◌, checked, reason_number}
-use Rattle.outcome.specs.declared.Outcome.{Outcome}
-use Rattle.outcome.specs.declared.Outcome.TheVariants.{Accepted, Refused}
+use Rattle.outcome.specs.Outcome.{Result, value, refused, refuse_if, ◌>>=◌, checked, reason_number, Outcome}
 use Rattle.outcome.specs.declared.Reason.{Reason}
 use Rattle.outcome.specs.declared.Reason.TheVariants.{OutOfOrder}
 use Rattle.format_fields.proofs.Codec.{refused_value}
 use Rattle.format_language.specs.LanguageFile.{whole}
 use Rattle.format_card.specs.Card.{Card, card_in, card_of, lower, together}
-use Rattle.format_card.specs.Inner.Sets.{lowest_of}
-
-pub not_accepted : {n : ℕ} {x : Reason} {A : Type 0} → Accepted n ≡ Refused x → A
-not_accepted e = let z : ◌≡◌ {A = ℕ} 0 1 = cc in absurd (omega arith)
+use Rattle.format_card.specs.Inner.Sets.{Reads, lowest_of}
 
 pub same_refusal : {A : Type 0} {p q : Reason} → ◌≡◌ {A = Result A} (refused p) (refused q) → p ≡ q
 same_refusal e = cc
 
-same_reason : {p q : Reason} → Refused p ≡ Refused q → p ≡ q
+same_reason : {p q : Reason} → ◌≡◌ {A = Outcome} (Err p) (Err q) → p ≡ q
 same_reason e = cc
 
 lower_second : (r s : Reason) → reason_number s < reason_number r → lower r s ≡ s
@@ -35,16 +31,12 @@ lower_first : (r s : Reason) → reason_number r ≤ reason_number s → lower r
 unfolding lower
 lower_first r s h = ap (λ (b : Bool). cond b r s) (le-leb (reason_number r) (reason_number s) h)
 
-module _ {first second : Outcome} {s : Reason} (es : second ≡ Refused s) where
-  pub lowest_one : {n : ℕ} → first ≡ Accepted n → Refused s ≡ lowest_of first second
-  lowest_one e = rw (e, es) refl
+module _ (r s : Reason) {a b : ℕ} (ea : a ≡ reason_number s) (eb : b ≡ reason_number r) where
+  pub lowest_second : a < b → Err s ≡ lowest_of (Err r) (Err s)
+  lowest_second h = ap Err (sym (lower_second r s (omega arith)))
 
-  module _ {r : Reason} (er : first ≡ Refused r) {a b : ℕ} (ea : a ≡ reason_number s) (eb : b ≡ reason_number r) where
-    pub lowest_second : a < b → Refused s ≡ lowest_of first second
-    lowest_second h = rw (er, es) (ap Refused (sym (lower_second r s (rw (ea, eb) at h))))
-
-    pub lowest_first : b ≤ a → Refused r ≡ lowest_of first second
-    lowest_first h = rw (er, es) (ap Refused (sym (lower_first r s (rw (ea, eb) at h))))
+  pub lowest_first : b ≤ a → Err r ≡ lowest_of (Err r) (Err s)
+  lowest_first h = ap Err (sym (lower_first r s (omega arith)))
 
 -- A card is refused by 2 or 3.
 card_low : (c : List ℕ) (q : Reason) → card_of c ≡ refused q → reason_number q < 4
@@ -59,15 +51,11 @@ card_low c q e = go (card_in (fields_of c)) e
     go none h = rw (← same_refusal {A = Card} h) (omega arith)
     go (some card) h = by_order (not (rising (λ k. k) card)) card h
 
--- Where the lowest is accepted, both are.
-pub lowest_accepted : (a b : Outcome) (n : ℕ) → lowest_of a b ≡ Accepted n → (a ≡ Accepted n) × (m : ℕ) × (b ≡ Accepted m)
-lowest_accepted a (Accepted m) n e = (e, m, refl)
-lowest_accepted (Accepted i) (Refused q) n e = not_accepted {n = n} {x = q} (sym e)
-lowest_accepted (Refused p) (Refused q) n e = not_accepted {n = n} {x = lower p q} (sym e)
-
-pub accepted_card : (d : Result Card) (m : ℕ) → checked d ≡ Accepted m → (card : Card) × (d ≡ value card)
-accepted_card (value card) m h = (card, refl)
-accepted_card (refused q) m h = not_accepted {n = m} {x = q} (sym h)
+-- Where a set of kinds is given, both are accepted, and it is the card's.
+pub lowest_accepted : (a d : Outcome) {k : ℕ} → lowest_of a d ≡ Ok k → ((n : ℕ) × (a ≡ Ok n)) × (d ≡ Ok k)
+lowest_accepted (Ok n) d e = ((n, refl), e)
+lowest_accepted (Err r) (Ok i) e = cc
+lowest_accepted (Err r) (Err s) e = cc
 
 -- What `together` gives comes of both values.
 pub together_value : {A B C : Type 0} (m : Result A) (d : Result B) (f : A → B → Result C) {v : C} → together m d f ≡ value v
@@ -81,24 +69,20 @@ together_value (refused r) (refused s) f e = refused_value e
 -- `together` refuses, whatever goes on from there.
 module _ {A B C : Type 0} (step : A → Result B) (high : (a : A) (p : Reason) → step a ≡ refused p → 3 < reason_number p)
     (more : A → Card → B → Result C) (c : List ℕ) {r : Reason} where
-  step_stays : (a : A) (card : Card) (m : Result B) → checked m ≡ Refused r → (m >>= more a card) ≡ refused r
-  step_stays a card (value b) h = not_accepted {n = 0} {x = r} h
-  step_stays a card (refused p) h = ap refused (same_reason h)
+  step_stays : (a : A) (card : Card) (m : Result B) (k : ℕ) → lowest_of (checked m) (Ok k) ≡ Err r → (m >>= more a card) ≡ refused r
+  step_stays a card (value b) k h = cc
+  step_stays a card (refused p) k h = ap refused (same_reason h)
 
   card_stays : (q : Reason) (a : A) (m : Result B) → card_of c ≡ refused q → step a ≡ m
-      → lowest_of (checked m) (Refused q) ≡ Refused r → ◌≡◌ {A = Result C} (refused q) (refused r)
+      → lowest_of (checked m) (Err q) ≡ Err r → ◌≡◌ {A = Result C} (refused q) (refused r)
   card_stays q a (value b) e f h = ap refused (same_reason h)
   card_stays q a (refused p) e f h =
       let i : reason_number q < reason_number p = omega (arith, card_low c q e, high a p f) in
       ap refused (sym (lower_second p q i) ∙ same_reason h)
 
-  stays : (m : Result A) (d : Result Card) → card_of c ≡ d → lowest_of (checked (m >>= step)) (checked d) ≡ Refused r
-      → together m d (λ a card. step a >>= more a card) ≡ refused r
-  stays (value a) (value card) e h = step_stays a card (step a) h
-  stays (value a) (refused q) e h = card_stays q a (step a) e refl h
-  stays (refused p) (value card) e h = ap refused (same_reason h)
-  stays (refused p) (refused q) e h = ap refused (same_reason h)
-
-  pub together_refused : (m : Result A) → lowest_of (checked (m >>= step)) (checked (card_of c)) ≡ Refused r
+  pub together_refused : (m : Result A) (d : Outcome) → Reads (card_of c) d → lowest_of (checked (m >>= step)) d ≡ Err r
       → together m (card_of c) (λ a card. step a >>= more a card) ≡ refused r
-  together_refused m h = stays m (card_of c) refl h
+  together_refused (value a) (Ok k) w h = let (card, e, held) = w.holds k refl in rw e (step_stays a card (step a) k h)
+  together_refused (value a) (Err q) w h = let e = w.refuses q refl in rw e (card_stays q a (step a) e refl h)
+  together_refused (refused p) (Ok k) w h = let (card, e, held) = w.holds k refl in rw e (ap refused (same_reason h))
+  together_refused (refused p) (Err q) w h = let e = w.refuses q refl in rw e (ap refused (same_reason h))

@@ -5,14 +5,10 @@ use mathlib.Core.Bool.{Bool, true, false, ◌||◌}
 use native.Mathlib.Nat.{pow-suc, add-mul-div_right, add-mul-mod_self_right}
 use native.Mathlib.Omega.{arith}
 use lib.Dec.{eqb, ltb}
-use lib.Pow.{pow-add, pow_mono, pow_pos, high, shl_exact}
+use lib.Pow.{pow-add, pow_mono, pow_pos, high}
 use borrow.Author.Tests.{eq-eqb, ne_eqb, ltb-true, ltb-false}
 use Rattle.format_fields.proofs.Truth.{by_test}
 use Rattle.format_card.specs.Inner.Sets.{in_set}
-
--- The set of one kind, by a shift.
-pub one_shifted : (k : ℕ) → k < 32 → (1 * 2 ^ k) % 2 ^ 32 ≡ 2 ^ k
-one_shifted k h = shl_exact {a = 1} 1 k 32 (omega arith) (omega arith) ∙ omega arith
 
 -- What is below a power has no bit from there on.
 pub no_bit : (n k : ℕ) → n < 2 ^ k → in_set n k ≡ false

@@ -2,20 +2,15 @@
 ghost use Rattle.std.specs.Prelude.{◌≡◌};
 ghost use Rattle.format_card.specs.Inner.Sets.{lowest_of};
 
-use outcome::{Outcome, number};
+use outcome::{Outcome, Reason};
 
-// The lowest of two refusals; where only one refuses, that one.
-pub fn lowest(first: Outcome, second: Outcome) -> Outcome
-    ensures { result ≡ lowest_of first second }
+// What was read of a card, where the first file is accepted too; else the lowest refusal of both.
+pub fn lowest(first: Outcome, card: Result<u32, Reason>) -> Result<u32, Reason>
+    ensures { result ≡ lowest_of first card }
 {
-    let Outcome::Refused(s) = second else {
-        return first;
-    };
-    let Outcome::Refused(r) = first else {
-        return second;
-    };
-    if number(second) < number(first) {
-        return second;
+    match (first, card) {
+        (Ok(_), _) => card,
+        (Err(r), Ok(_)) => Err(r),
+        (Err(r), Err(s)) => Err(if u32::from(s) < u32::from(r) { s } else { r }),
     }
-    first
 }

@@ -1,40 +1,15 @@
 // The card in bytes.
-ghost use Rattle.std.specs.Prelude.{◌≡◌, ◌≤◌, length, drop};
+ghost use Rattle.std.specs.Prelude.{◌≡◌};
 ghost use Rattle.format_card.specs.Card.{card_of};
-ghost use Rattle.format_card.specs.Inner.Sets.{is_card, Scans, Reads};
+ghost use Rattle.format_card.specs.Inner.Sets.{is_card, card_with, Reads};
 
 use crate::set::only;
 use format_fields::bytes::pair_in;
 use format_language::entries::KINDS;
-use outcome::{Outcome, Reason};
+use outcome::Reason;
 
 // The tag of a card.
 const CARD: u8 = 0x27;
-
-// What a card lets be seen: the set of its kinds, empty where the card is refused.
-#[derive(Clone, Copy)]
-pub struct Seen {
-    pub outcome: Outcome,
-    pub kinds: u32,
-}
-
-// What the contents of a card come to: a set, a number that is no kind, or kinds that do not rise.
-#[derive(Clone, Copy)]
-pub enum Kinds {
-    Set(u32),
-    Broken,
-    Unordered,
-}
-
-// A card that is refused lets nothing be seen.
-fn unseen(reason: Reason) -> Seen
-    ensures { (result.outcome ≡ Outcome.Refused reason) × (result.kinds ≡ 0) }
-{
-    Seen {
-        outcome: Outcome::Refused(reason),
-        kinds: 0,
-    }
-}
 
 // The bytes are one field of the card's tag, and nothing else.
 fn is_card(card: &[u8]) -> bool
@@ -49,19 +24,16 @@ fn is_card(card: &[u8]) -> bool
     pair_in(card, 1) == card.len() - 3
 }
 
-// The kinds in the contents of a card, which stand from its fourth byte on.
-fn contents(card: &[u8]) -> Kinds
-    requires { 3 ≤ length card.now }
-    ensures { Scans (drop 3 card.now) result }
+// The set of the kinds that a card with these contents lets be seen: 2 where a number is no kind, 3 where the kinds do not rise.
+fn contents(bytes: &[u8]) -> Result<u32, Reason>
+    ensures { Reads (card_with bytes.now) result }
 {
     let mut kinds = 0;
     let mut least = 0;
     let mut rising = true;
-    let mut i = 3;
-    while i < card.len() {
-        let kind = card[i];
+    for &kind in bytes {
         if KINDS <= kind {
-            return Kinds::Broken;
+            return Err(Reason::BrokenField);
         }
         if kind < least {
             rising = false;
@@ -69,27 +41,19 @@ fn contents(card: &[u8]) -> Kinds
             kinds += only(kind);
             least = kind + 1;
         }
-        i += 1;
     }
     if !rising {
-        return Kinds::Unordered;
+        return Err(Reason::OutOfOrder);
     }
-    Kinds::Set(kinds)
+    Ok(kinds)
 }
 
-// Reads a card: 2 where it is broken, 3 where its kinds do not rise.
-pub fn read_card(card: &[u8]) -> Seen
+// Reads a card, to the set of the kinds that may be seen: 2 where it is broken, 3 where its kinds do not rise.
+pub fn read_card(card: &[u8]) -> Result<u32, Reason>
     ensures { Reads (card_of card.now) result }
 {
     if !is_card(card) {
-        return unseen(Reason::BrokenField);
+        return Err(Reason::BrokenField);
     }
-    match contents(card) {
-        Kinds::Set(kinds) => Seen {
-            outcome: Outcome::Accepted(0),
-            kinds: kinds,
-        },
-        Kinds::Broken => unseen(Reason::BrokenField),
-        Kinds::Unordered => unseen(Reason::OutOfOrder),
-    }
+    contents(&card[3..])
 }

@@ -6,6 +6,7 @@ use mathlib.Core.List.{List, [], ◌∷◌, map}
 use mathlib.Core.Option.{none, some}
 use native.Mathlib.Omega.{arith}
 use native.Mathlib.Numerals.{add-one}
+use Rattle.std.specs.List.{list_all, list_any}
 use lib.ListN.{length, get_or, take, drop, length-take, drop_of_length-le}
 use lib.Seq.{slice, slice-cons, take-add, drop_at, drop-drop, length-take-le}
 use borrow.Author.Tests.{le-leb, lt-leb}
@@ -17,6 +18,17 @@ use Rattle.format_fields.specs.Keyed.{rising_from}
 -- Lists that are equal, by their first elements and what follows them.
 pub cons_both : {A : Type 0} {x y : A} {r s : List A} → x ∷ r ≡ y ∷ s → (x ≡ y) × (r ≡ s)
 cons_both e = (cc, cc)
+
+-- What the library's `all` and `any` come to over a slice.
+pub all_is : {A : Type 0} (f : A → Bool) (l : List A) → list_all f l ≡ all f l
+unfolding all
+all_is f [] = refl
+all_is f (a ∷ l) = ap (λ (b : Bool). f a && b) (all_is f l)
+
+pub any_is : {A : Type 0} (f : A → Bool) (l : List A) → list_any f l ≡ any f l
+unfolding any
+any_is f [] = refl
+any_is f (a ∷ l) = ap (λ (b : Bool). f a || b) (any_is f l)
 
 -- A turn of a pass over a list: x is what the whole pass comes to.
 module _ {A : Type 0} (f : A → Bool) (a : A) (l : List A) {x : Bool} where

@@ -1,4 +1,5 @@
 -- The walk by places, a turn at a time, and the passes of the code that go by it.
+use Rattle.std.specs.Prelude.{Some, None}
 use Prim.Native.Nat.{ℕ, zero, suc, ◌+◌, ◌-◌, ◌<◌, ◌≤◌}
 use mathlib.Core.Path.{◌≡◌, refl, sym, ap, ◌∙◌}
 use mathlib.Core.Bool.{Bool, true, false, ◌&&◌}
@@ -149,19 +150,19 @@ module _ (s : List ℕ) (p : ℕ) where
   long_here h = ltb-true _ _ h
 
   -- end_if_whole
-  pub cut_head : length s < p + 3 → EndIfWhole s p 0
+  pub cut_head : length s < p + 3 → EndIfWhole s p None
   unfolding is_whole
   cut_head h =
       let k : length s < field_end s p = omega (arith, end_past s p) in
-      record { cut = λ z. lt-leb _ _ k; whole = λ z. absurd (z refl) }
+      record { cut = λ z. lt-leb _ _ k; whole = λ e z. let w : ◌≡◌ {A = ℕ} 0 1 = cc in absurd (omega arith) }
 
   module _ (e : ℕ) (ee : e ≡ field_end s p) where
-    pub cut_end : length s < e → EndIfWhole s p 0
+    pub cut_end : length s < e → EndIfWhole s p None
     unfolding is_whole
-    cut_end h = record { cut = λ z. lt-leb _ _ (rw ee at h); whole = λ z. absurd (z refl) }
+    cut_end h = record { cut = λ z. lt-leb _ _ (rw ee at h); whole = λ e z. let w : ◌≡◌ {A = ℕ} 0 1 = cc in absurd (omega arith) }
 
-    pub end_inside : e ≤ length s → EndIfWhole s p e
+    pub end_inside : e ≤ length s → EndIfWhole s p (Some e)
     end_inside h = record {
-      cut = λ z. absurd (omega (arith, end_past s p));
-      whole = λ z. record { is = ee; past = rw ee (end_past s p); fits = h };
+      cut = λ z. let w : ◌≡◌ {A = ℕ} 0 1 = cc in absurd (omega arith);
+      whole = λ k z. let d : k ≡ e = cc in record { is = d ∙ ee; past = omega (arith, d, ee, end_past s p); fits = rw d h };
     }

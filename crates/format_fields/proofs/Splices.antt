@@ -1,16 +1,15 @@
 -- Writing into an output: one part behind another, and a law for each return and turn of the functions of copy.rt.
+use Rattle.std.specs.Prelude.{None, Option, Some}
 use Prim.Native.Nat.{ℕ, suc, ◌+◌, ◌-◌, ◌/◌, ◌%◌, ◌<◌, ◌≤◌}
 use mathlib.Core.Path.{◌≡◌, refl, sym, ap, ◌∙◌}
 use mathlib.Core.Bool.{Bool, true, false, cond}
 use mathlib.Core.List.{List, [], ◌∷◌, ◌++◌, append_assoc}
 use native.Mathlib.Nat.{add_assoc, add-zero}
-use native.Mathlib.Numerals.{add-one}
 use native.Mathlib.Omega.{arith}
-use lib.ListN.{length, take, drop, set, get_or, length-append, length-drop, take-append-drop}
-use lib.Seq.{slice, take_at, take-add, drop-append-add, drop-drop, length-take-le, length-slice, paste, paste-suc, get_or-drop, sets, sets-eq}
+use lib.ListN.{length, take, drop, set, length-append, length-drop, take-append-drop}
+use lib.Seq.{slice, take_at, take-add, drop-append-add, drop-drop, length-take-le, length-slice, sets, sets-eq}
+use borrow.Rule.Slice.PartMut.{put_mid}
 use Rattle.format_fields.proofs.Lists.{part_is}
-use Rattle.format_fields.specs.declared.copy.Stored.{Stored}
-use Rattle.format_fields.specs.declared.copy.Stored.TheVariants.{To, Full}
 use Rattle.format_fields.specs.Fields.{two_bytes}
 use Rattle.format_fields.specs.Inner.Writing.{spliced, Written, Stores}
 
@@ -64,25 +63,25 @@ unfolding spliced
 set_stored o n v h = sets-eq v o n h ∙ append_assoc (take n o) v (drop (n + length v) o)
 
 -- What was written in whole, what there was no room for, and nothing.
-pub stored_to : (v o o' : List ℕ) (n m : ℕ) → m ≡ n + length v → m ≤ length o → o' ≡ spliced o n v → Stores v o o' n (To m)
+pub stored_to : (v o o' : List ℕ) (n m : ℕ) → m ≡ n + length v → m ≤ length o → o' ≡ spliced o n v → Stores v o o' n (Some m)
 stored_to v o o' n m e f b = record {
   done = λ k q. let d : m ≡ k = cc in record { end = sym d ∙ e; fits = omega (arith, d, f); bytes = b };
   full = λ q. let z : ◌≡◌ {A = ℕ} 0 1 = cc in absurd (omega arith);
 }
 
-pub stored_full : (v o o' : List ℕ) (n : ℕ) → length o < n + length v → Stores v o o' n Full
+pub stored_full : (v o o' : List ℕ) (n : ℕ) → length o < n + length v → Stores v o o' n None
 stored_full v o o' n h = record {
   done = λ m q. let z : ◌≡◌ {A = ℕ} 0 1 = cc in absurd (omega arith);
   full = λ q. h;
 }
 
-pub stored_nothing : (o : List ℕ) (n : ℕ) → n ≤ length o → Stores [] o o n (To n)
+pub stored_nothing : (o : List ℕ) (n : ℕ) → n ≤ length o → Stores [] o o n (Some n)
 stored_nothing o n h = stored_to [] o o n n (omega arith) h (nothing_spliced o n)
 
 -- What there is room for is written.
-pub stored_there : (v o o' : List ℕ) (n : ℕ) (r : Stored) → Stores v o o' n r → n + length v ≤ length o → o' ≡ spliced o n v
-stored_there v o o' n (To m) w h = (w.done m refl).bytes
-stored_there v o o' n Full w h = absurd (omega (arith, w.full refl))
+pub stored_there : (v o o' : List ℕ) (n : ℕ) (r : Option ℕ) → Stores v o o' n r → n + length v ≤ length o → o' ≡ spliced o n v
+stored_there v o o' n (Some m) w h = (w.done m refl).bytes
+stored_there v o o' n None w h = absurd (omega (arith, w.full refl))
 
 -- One part written behind another.
 pub written_then : (v u o o' o'' : List ℕ) (n m k : ℕ) → Written v o o' n m → Written u o' o'' m k → length o' ≡ length o → Written (v ++ u) o o'' n k
@@ -96,38 +95,33 @@ written_then v u o o' o'' n m k w x e = record {
 
 -- `put`
 module _ (s : List ℕ) (p e : ℕ) (o : List ℕ) (n : ℕ) (rise : p ≤ e) (inside : e ≤ length s) where
-  pub put_more : (i : ℕ) → n + i < length o → p + i < length s
-      → set (paste o n (drop p s) i) (n + i) (get_or s (p + i) 0) ≡ paste o n (drop p s) (i + 1)
-  put_more i a b =
-      let l : i < length (drop p s) = simp length-drop (omega arith) in
-      rw (← get_or-drop p s i 0, add-one i) (paste-suc o n (drop p s) i 0 a l)
-
   long : length (slice p e s) ≡ e - p
   long = length-slice p e s inside
 
-  pub put_full : length o - n < e - p → Stores (slice p e s) o o n Full
+  pub put_full : length o < n + (e - p) → Stores (slice p e s) o o n None
   put_full h = stored_full (slice p e s) o o n (omega (arith, long))
 
-  pub put_done : (o' : List ℕ) → n ≤ length o → e - p ≤ length o - n → o' ≡ paste o n (drop p s) (e - p)
-      → Stores (slice p e s) o o' n (To (n + (e - p)))
-  put_done o' i h q =
-      stored_to (slice p e s) o o' n (n + (e - p)) (omega (arith, long)) (omega arith)
-      (q ∙ rw (opened o n (slice p e s), long, slice_is s p e rise inside) (append_assoc (take n o) (take (e - p) (drop p s)) (drop (n + (e - p)) o)))
+  pub put_done : (v o' : List ℕ) → n + (e - p) ≤ length o → v ≡ take (e - p) (drop p s) → o' ≡ put_mid n (n + (e - p) - n) o v
+      → Stores (slice p e s) o o' n (Some (n + (e - p)))
+  put_done v o' h q b =
+      let k : n + (n + (e - p) - n) ≡ n + length (slice p e s) = omega (arith, long) in
+      stored_to (slice p e s) o o' n (n + (e - p)) (omega (arith, long)) h
+      (b ∙ (ap (λ (w : List ℕ). put_mid n (n + (e - p) - n) o w) (q ∙ sym (slice_is s p e rise inside)) ∙ rw (opened o n (slice p e s), drop-drop (n + (e - p) - n) n o) (ap (λ (j : ℕ). take n o ++ (slice p e s ++ drop j o)) k)))
 
 -- `put_if`
 module _ (wanted : Bool) (v o : List ℕ) (n : ℕ) where
-  pub put_wanted : wanted ≡ true → (o' : List ℕ) (r : Stored) → Stores v o o' n r → Stores (cond wanted v []) o o' n r
+  pub put_wanted : wanted ≡ true → (o' : List ℕ) (r : Option ℕ) → Stores v o o' n r → Stores (cond wanted v []) o o' n r
   put_wanted e o' r w = rw e w
 
-  pub put_unwanted : wanted ≡ false → n ≤ length o → Stores (cond wanted v []) o o n (To n)
+  pub put_unwanted : wanted ≡ false → n ≤ length o → Stores (cond wanted v []) o o n (Some n)
   put_unwanted e h = rw e (stored_nothing o n h)
 
 -- `put_both`: the first part did not fit, or m is where it ended
-module _ (v u o o' : List ℕ) (n : ℕ) (x : Stored) (w : Stores v o o' n x) where
-  pub both_full : x ≡ Full → Stores (v ++ u) o o' n Full
+module _ (v u o o' : List ℕ) (n : ℕ) (x : Option ℕ) (w : Stores v o o' n x) where
+  pub both_full : x ≡ None → Stores (v ++ u) o o' n None
   both_full e = stored_full (v ++ u) o o' n (omega (arith, w.full e, length-append v u))
 
-  pub both_then : (m : ℕ) → x ≡ To m → (o'' : List ℕ) (y : Stored) → length o' ≡ length o → Stores u o' o'' m y → Stores (v ++ u) o o'' n y
+  pub both_then : (m : ℕ) → x ≡ Some m → (o'' : List ℕ) (y : Option ℕ) → length o' ≡ length o → Stores u o' o'' m y → Stores (v ++ u) o o'' n y
   both_then m e o'' y l x = record {
     done = λ k q. written_then v u o o' o'' n m k (w.done m e) (x.done k q) l;
     full = λ q. omega (arith, x.full q, (w.done m e).end, length-append v u);

@@ -2,13 +2,6 @@
 ghost use Rattle.std.specs.Prelude.{◌≡◌, ◌+◌, ◌*◌, ◌<◌, ◌≤◌, length, get_or};
 ghost use Rattle.format_fields.specs.Fields.{pair_at};
 
-// A byte as a position or a length.
-pub fn to_usize(x: u8) -> usize
-    ensures { (result ≡ x) × (result < 256) }
-{
-    x as usize
-}
-
 // The byte at i, and 0 past the end.
 pub fn byte_at(s: &[u8], i: usize) -> u8
     ensures { result ≡ get_or s.now i 0 }
@@ -21,7 +14,7 @@ pub fn pair_at(s: &[u8], i: usize) -> usize
     requires { i ≤ length s.now + 16 }
     ensures { (result ≡ pair_at s.now i) × (result < 65536) }
 {
-    to_usize(byte_at(s, i)) * 256 + to_usize(byte_at(s, i + 1))
+    usize::from(byte_at(s, i)) * 256 + usize::from(byte_at(s, i + 1))
 }
 
 // The same number, where both bytes are known to be there.
@@ -29,5 +22,5 @@ pub fn pair_in(s: &[u8], i: usize) -> usize
     requires { i + 1 < length s.now }
     ensures { (result ≡ pair_at s.now i) × (result < 65536) }
 {
-    to_usize(s[i]) * 256 + to_usize(s[i + 1])
+    usize::from(s[i]) * 256 + usize::from(s[i + 1])
 }

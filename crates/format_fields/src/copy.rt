@@ -4,39 +4,29 @@ ghost use Rattle.std.proofs.Math.Seq.{slice};
 ghost use Rattle.format_fields.specs.Fields.{two_bytes};
 ghost use Rattle.format_fields.specs.Inner.Writing.{Inside, spliced, Stores};
 
-// Where what was written ends, or that the output is too short for it.
-#[derive(Clone, Copy)]
-pub enum Stored {
-    To(usize),
-    Full,
-}
-
-// Copies the bytes of s from p up to e into the output, from n on.
-pub fn put(s: &[u8], p: usize, e: usize, out: &mut [u8], n: usize) -> Stored
+// Copies the bytes of s from p up to e into the output, from n on, and says where they end; nothing where the output is too short.
+pub fn put(s: &[u8], p: usize, e: usize, out: &mut [u8], n: usize) -> Option<usize>
     requires { Inside s.now p e × (n ≤ length out.old) }
     ensures { Stores (slice p e s.now) out.old out.new n result }
 {
-    let size = e - p;
-    if out.len() - n < size {
-        return Stored::Full;
+    let m = n + (e - p);
+    if out.len() < m {
+        return None;
     }
-    let mut i = 0;
-    while i < size {
-        out[n + i] = s[p + i];
-        i += 1;
-    }
-    Stored::To(n + size)
+    out[n..m].copy_from_slice(&s[p..e]);
+    Some(m)
 }
 
 // Copies the same where that is wanted, and nothing where it is not.
-pub fn put_if(wanted: bool, s: &[u8], p: usize, e: usize, out: &mut [u8], n: usize) -> Stored
+pub fn put_if(wanted: bool, s: &[u8], p: usize, e: usize, out: &mut [u8], n: usize) -> Option<usize>
     requires { Inside s.now p e × (n ≤ length out.old) }
     ensures { Stores (cond wanted (slice p e s.now) []) out.old out.new n result }
 {
     if wanted {
-        return put(s, p, e, out, n);
+        put(s, p, e, out, n)
+    } else {
+        Some(n)
     }
-    Stored::To(n)
 }
 
 // Copies the bytes of s from p up to e, and behind them those of t from q up to d.
@@ -49,13 +39,11 @@ pub fn put_both(
     d: usize,
     out: &mut [u8],
     n: usize,
-) -> Stored
+) -> Option<usize>
     requires { Inside s.now p e × (Inside t.now q d × (n ≤ length out.old)) }
     ensures { Stores (slice p e s.now ++ slice q d t.now) out.old out.new n result }
 {
-    let Stored::To(m) = put(s, p, e, out, n) else {
-        return Stored::Full;
-    };
+    let m = put(s, p, e, out, n)?;
     put(t, q, d, out, m)
 }
 
@@ -72,9 +60,5 @@ pub fn put_pair(value: usize, out: &mut [u8], n: usize)
 pub fn clear(s: &mut [u8])
     ensures { s.new ≡ replicate (length s.old) 0 }
 {
-    let mut i = 0;
-    while i < s.len() {
-        s[i] = 0;
-        i += 1;
-    }
+    s.fill(0);
 }

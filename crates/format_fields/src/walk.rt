@@ -5,7 +5,7 @@ ghost use Rattle.format_fields.specs.Keyed.{rising};
 ghost use Rattle.format_fields.specs.Lists.{all};
 ghost use Rattle.format_fields.specs.Inner.Places.{EndsAt, EndIfWhole, long_at, key_at, slot_at, item_order, order_at, places_from, places, Skipped, over_at};
 
-use super::bytes::{byte_at, pair_at, pair_in, to_usize};
+use super::bytes::{byte_at, pair_at, pair_in};
 
 // How many kinds there are. As keys they stand before the productions.
 pub const KINDS: usize = 32;
@@ -38,19 +38,19 @@ pub fn whole_end(s: &[u8], p: usize) -> usize
     p + 3 + pair_in(s, p + 1)
 }
 
-// Where the field at p ends if it is whole, and 0 if it is not.
-pub fn end_if_whole(s: &[u8], p: usize) -> usize
+// Where the field at p ends, if it is whole.
+pub fn end_if_whole(s: &[u8], p: usize) -> Option<usize>
     requires { p ≤ length s.now }
     ensures { EndIfWhole s.now p result }
 {
     if s.len() - p < 3 {
-        return 0;
+        return None;
     }
     let e = whole_end(s, p);
     if s.len() < e {
-        return 0;
+        return None;
     }
-    e
+    Some(e)
 }
 
 // The key of the entry at p, in a file whose leading entries have the tag `leading_tag`.
@@ -59,7 +59,7 @@ pub fn key_at(s: &[u8], p: usize, leading_tag: u8) -> usize
     ensures { (result ≡ key_at leading_tag s.now p) × (result < 65568) }
 {
     if byte_at(s, p) == leading_tag {
-        return to_usize(byte_at(s, p + 3));
+        return usize::from(byte_at(s, p + 3));
     }
     KINDS + pair_at(s, p + 3)
 }
@@ -70,7 +70,7 @@ pub fn whole_key(s: &[u8], p: usize, leading_tag: u8) -> usize
     ensures { (result ≡ key_at leading_tag s.now p) × (result < 65568) }
 {
     if s[p] == leading_tag {
-        return to_usize(s[p + 3]);
+        return usize::from(s[p + 3]);
     }
     KINDS + pair_in(s, p + 3)
 }
@@ -102,7 +102,7 @@ fn item_order(s: &[u8], p: usize) -> usize
     if pair_in(s, p + 1) < 3 {
         return key;
     }
-    key + to_usize(byte_at(s, p + 5))
+    key + usize::from(byte_at(s, p + 5))
 }
 
 // The key that the entry at p is ordered by, where its first five bytes are known to be there: in a body with its number.

@@ -1,4 +1,5 @@
 -- The chain of tests of `check_language`: a law for each return of `check_language`.
+use Rattle.std.specs.Prelude.{Err, Ok}
 use Prim.Native.Nat.{ℕ, ◌<◌, ◌≤◌}
 use mathlib.Core.Path.{◌≡◌, refl, sym, ◌∙◌}
 use mathlib.Core.Bool.{Bool, true, false, not}
@@ -8,7 +9,6 @@ use lib.ListN.{length}
 use borrow.Author.Tests.{lt-ltb, le-ltb}
 use Rattle.outcome.specs.Outcome.{refuse_if, value, checked}
 use Rattle.outcome.specs.declared.Reason.TheVariants.{TooLong, BrokenField, OutOfOrder, ClassIsResult}
-use Rattle.outcome.specs.declared.Outcome.TheVariants.{Accepted, Refused}
 use Rattle.format_fields.specs.Lists.{is_some}
 use Rattle.format_fields.specs.Keyed.{rising}
 use Rattle.format_fields.specs.Inner.Places.{places, key_at}
@@ -28,17 +28,17 @@ unfolding rising
 rising_is s l h = rw (← h.entries) (sym (rising_map entry_key (entry_at s) (key_at 0x11 s) (key_is s) 0 (places s)))
 
 module _ (s : List ℕ) where
-  pub too_long : 1024 < length s → Refused TooLong ≡ check_language s
+  pub too_long : 1024 < length s → Err TooLong ≡ check_language s
   unfolding check_language language_of
   too_long h = cc (lt-ltb 1024 (length s) h)
 
   module _ (short : length s ≤ 1024) (there-is : Bool) (et : there-is ≡ is_some (entries_of s)) where
-    absent : (o : Option Language) → entries_of s ≡ o → is_some o ≡ false → Refused BrokenField ≡ check_language s
+    absent : (o : Option Language) → entries_of s ≡ o → is_some o ≡ false → Err BrokenField ≡ check_language s
     unfolding check_language language_of
     absent none e h = cc (le-ltb 1024 (length s) short)
     absent (some l) e h = false_true (sym h)
 
-    pub broken : there-is ≡ false → Refused BrokenField ≡ check_language s
+    pub broken : there-is ≡ false → Err BrokenField ≡ check_language s
     broken h = absent (entries_of s) refl (sym et ∙ h)
 
     module _ (whole : there-is ≡ true) (rise : Bool) (er : rise ≡ rising (key_at 0x11 s) (places s)) where
@@ -55,12 +55,12 @@ module _ (s : List ℕ) where
           → A
       left f = let r = some_is (entries_of s) (sym et ∙ whole) in f r.0 (rest r.0 r.1)
 
-      pub out_of_order : rise ≡ false → Refused OutOfOrder ≡ check_language s
+      pub out_of_order : rise ≡ false → Err OutOfOrder ≡ check_language s
       out_of_order h = left (λ l e. rw h at e)
 
       module _ (rises : rise ≡ true) (both : Bool) (eb : both ≡ result_is_class s) where
-        pub clash : both ≡ true → Refused ClassIsResult ≡ check_language s
+        pub clash : both ≡ true → Err ClassIsResult ≡ check_language s
         clash h = left (λ l e. rw (rises, ← eb, h) at e)
 
-        pub accepted : both ≡ false → Accepted 0 ≡ check_language s
+        pub accepted : both ≡ false → Ok 0 ≡ check_language s
         accepted h = left (λ l e. rw (rises, ← eb, h) at e)

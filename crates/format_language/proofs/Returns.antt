@@ -4,7 +4,7 @@ use mathlib.Core.Path.{◌≡◌, refl}
 use mathlib.Core.Bool.{Bool, true, false, not}
 use mathlib.Core.List.{List}
 use native.Mathlib.Omega.{arith}
-use lib.ListN.{length, get_or}
+use lib.ListN.{get_or}
 use lib.Seq.{slice}
 use lib.Dec.{ltb, leb, eqb}
 use borrow.Author.Tests.{lt-ltb, le-ltb, le-leb, lt-leb, eq-eqb, ne_eqb}
@@ -12,7 +12,6 @@ use Rattle.format_fields.specs.Lists.{all}
 use Rattle.format_fields.specs.Fields.{pair_at}
 use Rattle.format_fields.specs.Inner.Places.{field_end, is_whole, WholeEnd}
 use Rattle.format_fields.proofs.Truth.{false_true}
-use Rattle.format_fields.proofs.Lists.{all_stop, all_next, part_done, part_next}
 use Rattle.format_fields.proofs.Places.{end_whole}
 use Rattle.format_language.specs.LanguageFile.{is_kind}
 use Rattle.format_language.specs.Inner.Entries.{size_at, step_at, step_whole, class_whole, production_whole, entry_good, entry_whole}
@@ -21,19 +20,6 @@ use Rattle.format_language.specs.Inner.Entries.{size_at, step_at, step_whole, cl
 not_zero : (n : ℕ) → not (eqb n 0) ≡ ltb 0 n
 not_zero zero = refl
 not_zero (suc n) = let h : suc n ≡ 0 → ⊥ = λ e. omega arith in rw (ne_eqb (suc n) 0 h, lt-ltb 0 (suc n) (omega arith)) refl
-
--- kinds_only
-module _ (s : List ℕ) (q e : ℕ) (x : Bool) (inv : all is_kind (slice q e s) ≡ x) where
-  pub kinds_done : e ≤ q → true ≡ x
-  unfolding all
-  kinds_done h = part_done (all is_kind) s q e x inv h
-
-  module _ (fits : e ≤ length s) (here : q < e) where
-    pub kinds_stop : 32 ≤ get_or s q 0 → false ≡ x
-    kinds_stop h = all_stop is_kind (get_or s q 0) _ (part_next (all is_kind) s q e x inv here fits) (le-ltb _ _ h)
-
-    pub kinds_next : get_or s q 0 < 32 → all is_kind (slice (q + 1) e s) ≡ x
-    kinds_next h = all_next is_kind (get_or s q 0) _ (part_next (all is_kind) s q e x inv here fits) (lt-ltb _ _ h)
 
 -- step_whole: n is the length of the contents
 module _ (s : List ℕ) (p n : ℕ) (en : n ≡ size_at s p) where

@@ -1,5 +1,5 @@
 -- A language in bytes (paper 01, "Languages", fields 11 and 12; paper 02, 2026-10, steps).
-use Rattle.std.specs.Prelude.{ℕ, ◌+◌, Bool, cond, not, ◌&&◌, ◌||◌, length, drop, ltb, leb, eqb}
+use Rattle.std.specs.Prelude.{ℕ, Bool, cond, not, ◌&&◌, ◌||◌, length, drop, ltb, leb, eqb}
 use mathlib.Core.List.{List, [], ◌∷◌, ◌++◌}
 use Rattle.std.proofs.Math.Option.{Option, none, some}
 use Rattle.outcome.specs.Outcome.{Result, value, refused, refuse_if, ◌>>=◌}

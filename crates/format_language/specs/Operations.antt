@@ -1,7 +1,6 @@
 -- The operation on languages (paper 01, "Operations and their refusals").
 use Rattle.std.specs.Prelude.{ℕ, List}
-use Rattle.outcome.specs.Outcome.{checked}
-use Rattle.outcome.specs.declared.Outcome.{Outcome}
+use Rattle.outcome.specs.Outcome.{checked, Outcome}
 use Rattle.format_language.specs.LanguageFile.{language_of}
 
 -- Check a language: 1 to 4.

@@ -5,7 +5,6 @@ ghost use Rattle.format_fields.specs.Inner.Places.{places_from, tag_is};
 ghost use Rattle.format_language.specs.Inner.Entries.{entry_whole, RisingEntries, Classed, result_marked, results_meet, result_is_class};
 
 use super::entries::CLASS;
-use format_fields::bytes::to_usize;
 use format_fields::walk::{KINDS, whole_end};
 
 // Marks the classes in a table of kinds, and says where the productions start.
@@ -18,7 +17,7 @@ fn mark_classes(s: &[u8], kinds: &mut [bool]) -> usize
         if s[p] != CLASS {
             return p;
         }
-        kinds[to_usize(s[p + 3])] = true;
+        kinds[usize::from(s[p + 3])] = true;
         p = whole_end(s, p);
     }
     p
@@ -31,7 +30,7 @@ fn results_marked(s: &[u8], q: usize, kinds: &[bool]) -> bool
 {
     let mut p = q;
     while p < s.len() {
-        if kinds[to_usize(s[p + 3])] {
+        if kinds[usize::from(s[p + 3])] {
             return true;
         }
         p = whole_end(s, p);

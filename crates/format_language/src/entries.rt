@@ -31,19 +31,11 @@ pub const STEPPED_LENGTH: usize = 7;
 // The greatest length of a production: result, name, arguments.
 const PRODUCTION_LENGTH: usize = 2 + ARGUMENTS;
 
-// The bytes from p up to e are kinds.
-fn kinds_only(s: &[u8], p: usize, e: usize) -> bool
-    requires { e ≤ length s.now }
-    ensures { result ≡ all is_kind (slice p e s.now) }
+// The bytes are kinds.
+fn kinds_only(bytes: &[u8]) -> bool
+    ensures { result ≡ all is_kind bytes.now }
 {
-    let mut q = p;
-    while q < e {
-        if KINDS <= s[q] {
-            return false;
-        }
-        q += 1;
-    }
-    true
+    bytes.iter().all(|&kind| kind < KINDS)
 }
 
 // The contents of the whole field at p, n bytes, have the length of a class, and a step that is not 0 where one is written.
@@ -88,7 +80,7 @@ fn production_whole(s: &[u8], p: usize, n: usize) -> bool
     if KINDS <= s[p + 3] {
         return false;
     }
-    kinds_only(s, p + 5, p + 3 + n)
+    kinds_only(&s[p + 5..p + 3 + n])
 }
 
 // The whole field at p, which ends at e, is an entry.
@@ -113,10 +105,9 @@ pub fn entries_whole(s: &[u8]) -> bool
 {
     let mut p = 0;
     while p < s.len() {
-        let e = end_if_whole(s, p);
-        if e == 0 {
+        let Some(e) = end_if_whole(s, p) else {
             return false;
-        }
+        };
         if !entry_good(s, p, e) {
             return false;
         }

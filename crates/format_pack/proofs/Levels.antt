@@ -4,6 +4,7 @@ use mathlib.Core.Path.{◌≡◌, refl, sym, ap, subst, ◌∙◌}
 use mathlib.Core.Bool.{Bool, true, false, cond, ◌&&◌}
 use mathlib.Core.List.{List, [], ◌∷◌}
 use mathlib.Core.Option.{Option, none, some}
+use Rattle.std.specs.Prelude.{Some}
 use native.Mathlib.Omega.{arith}
 use lib.ListN.{get_or}
 use lib.Dec.{ltb, leb, eqb}
@@ -11,6 +12,8 @@ use borrow.Author.Tests.{leb-true, ltb-true, eqb-true, eqb-false}
 use Rattle.format_fields.specs.Lists.{any}
 use Rattle.format_fields.proofs.Truth.{by_test, and_both}
 use Rattle.format_pack.specs.Terms.{Sort, languages, translations, Term, constant, source_of, target_of, make, join, identity, variable, without, sum, bind, Parse, then, number, language_sign, translation_sign, read_sign, read_term, scoped}
+use Rattle.format_pack.specs.declared.signs.Sort as Signs
+use Rattle.format_pack.specs.declared.signs.Sort.TheVariants.{Language, Translation}
 use Rattle.format_pack.specs.Inner.Signs.{has_number, sign_index, first_operand, second_operand}
 use Rattle.format_pack.proofs.ByPlace.{and_join}
 use Rattle.format_pack.specs.Inner.Reading.{next, after_number, in_scope, after, is_sign, after_sign, after_last}
@@ -104,10 +107,10 @@ module _ (l b n : ℕ) where
   abbrev pub rest : ℕ → Option (List ℕ) → Option (List ℕ)
   rest x o = next o λ u. next (after l b n (first_operand x) u) λ v. next (after l b n (second_operand x) v) (after_last b x)
 
-  language_level : (x : ℕ) (s : List ℕ) → in_scope l b (language_sign (read_term n) x s) ≡ rest x (after_sign l 1 (x ∷ s))
+  language_level : (x : ℕ) (s : List ℕ) → in_scope l b (language_sign (read_term n) x s) ≡ rest x (after_sign l Language (x ∷ s))
   unfolding language_sign after after_sign after_last first_operand second_operand sign_index has_number any scoped
   language_level x s =
-      let P : ℕ → Type 0 = λ x. in_scope l b (language_sign (read_term n) x s) ≡ rest x (after_sign l 1 (x ∷ s)) in
+      let P : ℕ → Type 0 = λ x. in_scope l b (language_sign (read_term n) x s) ≡ rest x (after_sign l Language (x ∷ s)) in
       sign_at P x 0x40 (number_alone l b l s constant (λ v. refl)) λ e0.
       sign_at P x 0x41 (number_alone l b 16 s variable (λ v. refl)) λ e1.
       sign_at P x 0x42 (two l b (read_term n) languages languages true s without (λ x y. refl)) λ e2.
@@ -116,18 +119,18 @@ module _ (l b n : ℕ) where
       sign_at P x 0x45 (one l b (read_term n) translations true s target_of (λ x. refl)) λ e5.
       sign_at P x 0x46 (let_two l b (read_term n) languages languages s (bind languages) (λ v x y. refl)) λ e6.
       sign_at P x 0x47 (let_two l b (read_term n) translations languages s (bind translations) (λ v x y. refl)) λ e7.
-      let z : is_sign 1 x ≡ false =
-      by_test (is_sign 1 x)
+      let z : is_sign Language x ≡ false =
+      by_test (is_sign Language x)
       (λ t.
       let w = and_both (leb 0x40 x) (ltb x 0x48) t in
       absurd (not_eight x 0x40 (leb-true 0x40 x w.0) (ltb-true x 0x48 w.1) (eqb-false x 0x40 e0) (eqb-false x 0x41 e1) (eqb-false x 0x42 e2) (eqb-false x 0x43 e3) (eqb-false x 0x44 e4) (eqb-false x 0x45 e5) (eqb-false x 0x46 e6) (eqb-false x 0x47 e7)))
       (λ t. t) in
       cc
 
-  translation_level : (x : ℕ) (s : List ℕ) → in_scope l b (translation_sign (read_term n) x s) ≡ rest x (after_sign l 2 (x ∷ s))
+  translation_level : (x : ℕ) (s : List ℕ) → in_scope l b (translation_sign (read_term n) x s) ≡ rest x (after_sign l Translation (x ∷ s))
   unfolding translation_sign after after_sign after_last first_operand second_operand sign_index has_number any scoped
   translation_level x s =
-      let P : ℕ → Type 0 = λ x. in_scope l b (translation_sign (read_term n) x s) ≡ rest x (after_sign l 2 (x ∷ s)) in
+      let P : ℕ → Type 0 = λ x. in_scope l b (translation_sign (read_term n) x s) ≡ rest x (after_sign l Translation (x ∷ s)) in
       sign_at P x 0x50 (make_is s) λ e0.
       sign_at P x 0x51 (number_alone l b 16 s variable (λ v. refl)) λ e1.
       sign_at P x 0x52 (two l b (read_term n) translations languages true s without (λ x y. refl)) λ e2.
@@ -136,8 +139,8 @@ module _ (l b n : ℕ) where
       sign_at P x 0x55 (one l b (read_term n) languages true s identity (λ x. refl)) λ e5.
       sign_at P x 0x56 (let_two l b (read_term n) languages translations s (bind languages) (λ v x y. refl)) λ e6.
       sign_at P x 0x57 (let_two l b (read_term n) translations translations s (bind translations) (λ v x y. refl)) λ e7.
-      let z : is_sign 2 x ≡ false =
-      by_test (is_sign 2 x)
+      let z : is_sign Translation x ≡ false =
+      by_test (is_sign Translation x)
       (λ t.
       let w = and_both (leb 0x50 x) (ltb x 0x58) t in
       absurd (not_eight x 0x50 (leb-true 0x50 x w.0) (ltb-true x 0x58 w.1) (eqb-false x 0x50 e0) (eqb-false x 0x51 e1) (eqb-false x 0x52 e2) (eqb-false x 0x53 e3) (eqb-false x 0x54 e4) (eqb-false x 0x55 e5) (eqb-false x 0x56 e6) (eqb-false x 0x57 e7)))
@@ -151,21 +154,12 @@ module _ (l b n : ℕ) where
           ∙ ap (λ (f : List ℕ → Option (List ℕ)). next (in_scope l b (read_term n languages s)) λ q. next (in_scope l b (read_term n languages q)) f) (λ i r. last_some (after_number b r) i)
 
   -- One level of either sort.
-  abbrev Level : List ℕ → ℕ → Type 0
-  Level s sort = after l b (suc n) sort s ≡ rest (get_or s 0 0) (after_sign l sort s)
+  abbrev Level : Signs.Sort → List ℕ → Type 0
+  Level sort s = after l b (suc n) (Some sort) s ≡ rest (get_or s 0 0) (after_sign l sort s)
 
-  language_is : (s : List ℕ) → Level s 1
+  pub level_is : (sort : Signs.Sort) (s : List ℕ) → Level sort s
   unfolding after read_term read_sign after_sign
-  language_is [] = refl
-  language_is (x ∷ s) = language_level x s
-
-  translation_is : (s : List ℕ) → Level s 2
-  unfolding after read_term read_sign after_sign
-  translation_is [] = refl
-  translation_is (x ∷ s) = translation_level x s
-
-  pub level_is : (sort : ℕ) → (sort ≡ 0 → ⊥) → sort ≤ 2 → (s : List ℕ) → Level s sort
-  level_is sort h k s =
-      by_test (eqb sort 1)
-      (λ e. subst (Level s) (sym (eqb-true sort 1 e)) (language_is s))
-      (λ e. let z : 2 ≡ sort = omega (arith, eqb-false sort 1 e) in subst (Level s) z (translation_is s))
+  level_is Language [] = refl
+  level_is Language (x ∷ s) = language_level x s
+  level_is Translation [] = refl
+  level_is Translation (x ∷ s) = translation_level x s

@@ -15,7 +15,7 @@ use Rattle.format_fields.specs.Keyed.{rising}
 use Rattle.format_fields.proofs.Truth.{by_test, none_some, false_true, and_both, or_false, false_or}
 use Rattle.format_fields.proofs.Codec.{Each, cond_there, cond_some, before_inv, traverse_front, traverse_append, each_append, each_front, concat_append, fields_encode, Within, not_over, within_over}
 use Rattle.format_language.specs.Language.{Language, entry_key, clashes}
-use Rattle.format_language.specs.LanguageFile.{entries_of, encode_language, language_limit, whole}
+use Rattle.format_language.specs.LanguageFile.{entries_of, encode_language, language_limit}
 use Rattle.format_language.proofs.Codec.{entry_whole, GoodLanguage, language_whole, language_length, open_value, open_rest}
 use Rattle.format_translation.specs.Translation.{Body, item_key}
 use Rattle.format_translation.specs.TranslationFile.{body_of}

@@ -1,4 +1,5 @@
 -- The passes over a pack: a law for each return of the functions of its check.
+use Rattle.std.specs.Prelude.{Err, Ok}
 use Prim.Native.Nat.{ℕ, ◌+◌, ◌-◌, ◌<◌, ◌≤◌}
 use mathlib.Core.Path.{◌≡◌, refl, sym, ap, ◌∙◌}
 use mathlib.Core.Bool.{Bool, true, false, not, ◌&&◌, ◌||◌}
@@ -7,13 +8,11 @@ use mathlib.Core.Option.{Option, none, some}
 use native.Mathlib.Omega.{arith}
 use lib.ListN.{length, get_or, take, drop}
 use lib.Dec.{ltb, eqb}
-use borrow.Author.Tests.{lt-ltb, le-ltb, le-leb, lt-leb, eq-eqb, ne_eqb, eqb-true}
+use borrow.Author.Tests.{le-leb, lt-leb, eq-eqb, ne_eqb, eqb-true}
 use Rattle.format_fields.specs.Lists.{all, any, is_some, keep}
 use Rattle.format_fields.specs.Fields.{pair_at, has_over}
 use Rattle.format_fields.specs.Keyed.{rising}
-use Rattle.outcome.specs.Outcome.{value, refuse_if, checked}
-use Rattle.outcome.specs.declared.Outcome.{Outcome}
-use Rattle.outcome.specs.declared.Outcome.TheVariants.{Accepted, Refused}
+use Rattle.outcome.specs.Outcome.{value, refuse_if, checked, Outcome}
 use Rattle.outcome.specs.declared.Reason.TheVariants as Why
 use Rattle.format_fields.specs.Inner.Places.{field_end, is_whole, contents_at, places_from, places, order_at, tag_is, long_at, WholeEnd}
 use Rattle.format_fields.proofs.Truth.{false_true, and_both, some_is}
@@ -209,33 +208,19 @@ clash_places s (p ∷ l) h =
     (λ d e i. cc more)
     (λ d f e. cc more)
 
--- over_limit
-same_tag : (t : Bool) → (t || t) ≡ t
-same_tag true = refl
-same_tag false = refl
-
-module _ (s : List ℕ) where
-  pub over_file : 32768 < length s → true ≡ (ltb pack_limit (length s) || has_over is_language_tag language_limit s)
-  over_file h = rw (lt-ltb 32768 (length s) h)
-
-  pub over_language : length s ≤ 32768 → (x : Bool) → x ≡ has_over (λ tag. eqb tag 0x30 || eqb tag 0x30) language_limit s
-      → x ≡ (ltb pack_limit (length s) || has_over is_language_tag language_limit s)
-  over_language h x ex =
-      rw (le-ltb 32768 (length s) h) (ex ∙ ap (λ (f : ℕ → Bool). has_over f language_limit s) (λ i t. same_tag (eqb t 0x30) i))
-
 -- check_pack
 module _ (s : List ℕ) (over : Bool) (eo : over ≡ (ltb pack_limit (length s) || has_over is_language_tag language_limit s)) where
-  pub over_refused : {o : Outcome} → over ≡ true → o ≡ Refused Why.TooLong → o ≡ checked (pack_of s)
+  pub over_refused : {o : Outcome} → over ≡ true → o ≡ Err Why.TooLong → o ≡ checked (pack_of s)
   unfolding pack_of
   over_refused h i = cc
 
   module _ (within : over ≡ false) (there : Bool) (et : there ≡ is_some (pack_parts s)) where
-    absent : (p : Option Pack) → pack_parts s ≡ p → is_some p ≡ false → checked (pack_of s) ≡ Refused Why.BrokenField
+    absent : (p : Option Pack) → pack_parts s ≡ p → is_some p ≡ false → checked (pack_of s) ≡ Err Why.BrokenField
     unfolding pack_of
     absent none e h = cc
     absent (some p) e h = false_true (sym h)
 
-    pub broken_refused : {o : Outcome} → there ≡ false → o ≡ Refused Why.BrokenField → o ≡ checked (pack_of s)
+    pub broken_refused : {o : Outcome} → there ≡ false → o ≡ Err Why.BrokenField → o ≡ checked (pack_of s)
     broken_refused h i = i ∙ sym (absent (pack_parts s) refl (sym et ∙ h))
 
     module _ (whole_is : there ≡ true) where
@@ -264,12 +249,12 @@ module _ (s : List ℕ) (over : Bool) (eo : over ≡ (ltb pack_limit (length s) 
       chain = rw (rise_is, clash_all) (ap checked (opened held.0 held.1))
 
       module _ (rise : Bool) (er : rise ≡ all (rises_at s) (places s)) where
-        pub order_refused : {o : Outcome} → rise ≡ false → o ≡ Refused Why.OutOfOrder → o ≡ checked (pack_of s)
+        pub order_refused : {o : Outcome} → rise ≡ false → o ≡ Err Why.OutOfOrder → o ≡ checked (pack_of s)
         order_refused h i = i ∙ sym (chain ∙ rw (← er, h))
 
         module _ (rises : rise ≡ true) (both : Bool) (eb : both ≡ any (clash_at s) (places s)) where
-          pub clash_refused : {o : Outcome} → both ≡ true → o ≡ Refused Why.ClassIsResult → o ≡ checked (pack_of s)
+          pub clash_refused : {o : Outcome} → both ≡ true → o ≡ Err Why.ClassIsResult → o ≡ checked (pack_of s)
           clash_refused h i = i ∙ sym (chain ∙ rw (← er, rises, ← eb, h))
 
-          pub pack_accepted : {o : Outcome} → both ≡ false → o ≡ Accepted 0 → o ≡ checked (pack_of s)
+          pub pack_accepted : {o : Outcome} → both ≡ false → o ≡ Ok 0 → o ≡ checked (pack_of s)
           pack_accepted h i = i ∙ sym (chain ∙ rw (← er, rises, ← eb, h))

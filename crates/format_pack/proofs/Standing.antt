@@ -4,9 +4,11 @@ use mathlib.Core.Path.{◌≡◌, refl, sym, ap, subst, ◌∙◌}
 use mathlib.Core.Bool.{Bool, true, ◌&&◌}
 use mathlib.Core.List.{List, [], ◌∷◌, map}
 use mathlib.Core.Option.{Option, some}
+use Rattle.std.specs.Prelude.{Option as Found, Some, None, IsSome}
+use borrow.Author.Rules.{rules}
 use native.Mathlib.Omega.{arith}
-use lib.ListN.{length, get_or, get_elem?, drop, length-drop}
-use lib.Seq.{slice, take_all}
+use lib.ListN.{length, get_or, get_elem?, take, drop, length-drop}
+use lib.Seq.{take_all}
 use lib.Dec.{leb, eqb}
 use borrow.Author.Tests.{le-ltb, leb-true, leb-false, eq-eqb, ne_eqb, eqb-true}
 use Rattle.format_fields.specs.Lists.{all, keep}
@@ -15,7 +17,7 @@ use Rattle.format_fields.specs.Keyed.{rising}
 use Rattle.outcome.specs.Outcome.{value}
 use Rattle.format_fields.specs.Inner.Places.{field_end, is_whole, contents_at, field_at, places_in, places_from, places, tag_is, tags_ordered}
 use Rattle.format_fields.proofs.Truth.{by_test, false_true, none_some, some_inj, and_both}
-use Rattle.format_fields.proofs.Lists.{all_true, part_is}
+use Rattle.format_fields.proofs.Lists.{all_true}
 use Rattle.format_fields.proofs.Places.{pass_done, pass_next, end_past, in_done, in_next, whole_end}
 use Rattle.format_fields.proofs.Codec.{Each, each_at, Within, not_over}
 use Rattle.format_fields.proofs.Split.{fields_at_places}
@@ -26,10 +28,11 @@ use Rattle.format_translation.specs.Translation.{Body, item_key}
 use Rattle.format_translation.specs.TranslationFile.{body_of}
 use Rattle.format_translation.proofs.Codec.{GoodBody}
 use Rattle.format_pack.specs.Pack.{Pack, is_language_tag, pack_of}
+use Rattle.format_pack.specs.declared.parts.Place.{Place}
 use Rattle.format_pack.specs.Inner.Parts.{language_at, body_at, part_whole, parts_ordered, tagged, StandsAt}
 use Rattle.format_pack.proofs.PackCodec.{pack_in_lem, pack_good}
 use Rattle.format_pack.proofs.ByPlace.{part_cases, HoldsParts, holds_parts, wholes}
-use Rattle.format_pack.proofs.Passes.{language_is, body_is, part_whole_lem}
+use Rattle.format_pack.proofs.Passes.{language_is, body_is}
 
 -- field_place
 pub place_start : (tag : ℕ) (s : List ℕ) (number : ℕ) → get_elem? (keep (tag_is tag s) (places s)) number ≡ get_elem? (tagged tag s) number
@@ -66,11 +69,20 @@ module _ (tag : ℕ) (s : List ℕ) (p left : ℕ) (x : Option ℕ) (inv : get_e
 
 pub stands_here : (tag : ℕ) (s : List ℕ) (p left number : ℕ) → get_elem? (keep (tag_is tag s) (places_from s p)) left ≡ get_elem? (tagged tag s) number
     → (end : ℕ) → end ≡ field_end s p → p < length s → (t : ℕ) → t ≡ get_or s p 0 → t ≡ tag → left ≡ 0 → is_whole s p ≡ true
-    → StandsAt tag s number (p + 3) end
+    → StandsAt tag s number (Some (record { start = p + 3; end = end }))
 stands_here tag s p left number inv end ee here t et h z w = record {
-  past = rw ee (end_past s p);
-  inside = (whole_end s p w end ee).fits;
-  is = λ q e. let y = place_here tag s p left _ inv end ee here t et h z q e in (ap (λ (n : ℕ). n + 3) y, ee ∙ ap (field_end s) y);
+  inside = λ a d. let i : record { start = p + 3; end = end } ≡ a = cc in rw (← i) (rw ee (end_past s p), (whole_end s p w end ee).fits);
+  is = λ q e.
+      let y = place_here tag s p left _ inv end ee here t et h z q e in
+      let d : end ≡ field_end s q = ee ∙ ap (field_end s) y in
+      rw (y, d) refl;
+}
+
+pub stands_nowhere : (tag : ℕ) (s : List ℕ) (p left number : ℕ) → get_elem? (keep (tag_is tag s) (places_from s p)) left ≡ get_elem? (tagged tag s) number
+    → length s ≤ p → StandsAt tag s number None
+stands_nowhere tag s p left number inv h = record {
+  inside = λ a d. cc;
+  is = λ q e. place_none tag s p left _ inv h q e;
 }
 
 -- What a pack that was accepted holds.
@@ -118,45 +130,45 @@ within_kept s f (b ∷ l) n q w e =
     here (suc n) i more = more n i
 
 -- The contents of a whole field, by the place where they stand.
-module _ (s : List ℕ) (q a b : ℕ) (ea : a ≡ q + 3) (eb : b ≡ field_end s q) where
-  contents_stand : is_whole s q ≡ true → slice a b s ≡ contents_at s q
+module _ (tag : ℕ) (s : List ℕ) (number : ℕ) {r : Found Place} (w : StandsAt tag s number r) where
+  pub contents_there : {a : Place} → r ≡ Some a → (q : ℕ) → get_elem? (tagged tag s) number ≡ some q → take (a.end - a.start) (drop a.start s) ≡ contents_at s q
   unfolding field_end
-  contents_stand w =
-      let n = (whole_end s q w b eb).fits in
-      let m : q + 3 ≤ length s = omega (arith, eb) in
-      rw (ea, eb) (sym (part_is s (q + 3) (pair_at s (q + 1)) m))
+  contents_there {a} e q d =
+      let i : record { start = q + 3; end = field_end s q } ≡ a = cc (w.is q d) in
+      let j : field_end s q - (q + 3) ≡ pair_at s (q + 1) = omega arith in
+      rw (← i, j) refl
+
+  pub contents_none : r ≡ None → {A : Type 0} (q : ℕ) → get_elem? (tagged tag s) number ≡ some q → A
+  contents_none e q d = cc (w.is q d)
 
 -- language_at and body_at
-module _ (s : List ℕ) (number a b : ℕ) (p : Pack) (e : pack_of s ≡ value p) where
-  pub language_found : StandsAt 0x30 s number a b → (l : Language) → get_elem? p.languages number ≡ some l → language_of (slice a b s) ≡ value l
+module _ (s : List ℕ) (number : ℕ) {c : List ℕ} (p : Pack) (e : pack_of s ≡ value p) where
+  pub language_found : ((q : ℕ) → get_elem? (tagged 0x30 s) number ≡ some q → c ≡ contents_at s q)
+      → (l : Language) → get_elem? p.languages number ≡ some l → language_of c ≡ value l
   unfolding tagged language_of field_at
   language_found w l g =
       let h = accepted_parts s p e in
       let (q, d, is) = mapped_at (language_at s) (tagged 0x30 s) number l (rw h.languages g) in
       let (tag, good) = kept_at (tag_is 0x30 s) (part_whole s) (places s) number q h.parts d in
-      let (ea, eb) = w.is q d in
-      let c : slice a b s ≡ contents_at s q = contents_stand s q a b ea eb (part_whole_lem s q good) in
       let j : entries_of (contents_at s q) ≡ some (language_at s q) =
       part_cases s q good (λ t i. language_is s q i) (λ t u i. false_true (sym t ∙ tag)) (λ t u i. false_true (sym t ∙ tag)) in
-      let i : entries_of (slice a b s) ≡ some l = ap entries_of c ∙ (j ∙ ap some is) in
+      let i : entries_of c ≡ some l = ap entries_of (w q d) ∙ (j ∙ ap some is) in
       let f = each_at GoodLanguage p.languages number l (pack_good s p e).0 g in
       let v = not_over is_language_tag language_limit s (map (field_at s) (places s)) (fields_at_places s ∙ rw (accepted_whole s p e) refl) (pack_in_lem s p e).within in
-      let n : length (slice a b s) ≤ 1024 = rw c (within_kept s (tag_is 0x30 s) (places s) number q v d tag) in
-      rw (le-ltb 1024 (length (slice a b s)) n, i, f.rises, f.apart)
+      let n : length c ≤ 1024 = rw (w q d) (within_kept s (tag_is 0x30 s) (places s) number q v d tag) in
+      rw (le-ltb 1024 (length c) n, i, f.rises, f.apart)
 
-  pub body_found : StandsAt 0x31 s number a b → (x : Body) → get_elem? p.bodies number ≡ some x
-      → (body_of (slice a b s) ≡ some x) × (rising item_key x ≡ true)
+  pub body_found : ((q : ℕ) → get_elem? (tagged 0x31 s) number ≡ some q → c ≡ contents_at s q)
+      → (x : Body) → get_elem? p.bodies number ≡ some x → (body_of c ≡ some x) × (rising item_key x ≡ true)
   unfolding tagged
   body_found w x g =
       let h = accepted_parts s p e in
       let (q, d, is) = mapped_at (body_at s) (tagged 0x31 s) number x (rw h.bodies g) in
       let (tag, good) = kept_at (tag_is 0x31 s) (part_whole s) (places s) number q h.parts d in
-      let (ea, eb) = w.is q d in
-      let c : slice a b s ≡ contents_at s q = contents_stand s q a b ea eb (part_whole_lem s q good) in
       let n : eqb (get_or s q 0) 0x30 ≡ true → ⊥ = λ t. omega (arith, eqb-true (get_or s q 0) 0x30 t, eqb-true (get_or s q 0) 0x31 tag) in
       let j : body_of (contents_at s q) ≡ some (body_at s q) =
       part_cases s q good (λ t i. absurd (n t)) (λ t u i. body_is s q i) (λ t u i. false_true (sym u ∙ tag)) in (
-        ap body_of c ∙ (j ∙ ap some is),
+        ap body_of (w q d) ∙ (j ∙ ap some is),
         (each_at GoodBody p.bodies number x (pack_good s p e).1 g).rises,
       )
 
@@ -217,12 +229,22 @@ one_mapped f (a ∷ []) b e = (a, refl, cc)
 one_mapped f (a ∷ c ∷ l) b e = none_some {B = ℕ} {b = 0} (cc)
 
 -- term_start
-pub term_found : (s : List ℕ) (a b : ℕ) (p : Pack) → pack_of s ≡ value p → StandsAt 0x32 s 0 a b → drop a s ≡ p.term
-unfolding tagged field_end places_from
-term_found s a b p e w =
-    let h = accepted_parts s p e in
-    let (q, one, is) = one_mapped (contents_at s) (tagged 0x32 s) p.term h.term in
-    let (ea, eb) = w.is q (ap (λ (l : List ℕ). get_elem? l 0) one) in
-    let n = term_last (suc (length s)) s 0x30 0 q (omega arith) h.ordered one in
-    let m : length (drop (q + 3) s) ≤ pair_at s (q + 1) = simp length-drop (omega arith) in
-    rw ea (sym (take_all (pair_at s (q + 1)) (drop (q + 3) s) m) ∙ is)
+module _ (s : List ℕ) (p : Pack) (e : pack_of s ≡ value p) {r : Found Place} (w : StandsAt 0x32 s 0 r) where
+  term_at : (q : ℕ) × (tagged 0x32 s ≡ q ∷ []) × (contents_at s q ≡ p.term)
+  term_at = one_mapped (contents_at s) (tagged 0x32 s) p.term (accepted_parts s p e).term
+
+  term_place : r ≡ Some (record { start = term_at.0 + 3; end = field_end s term_at.0 })
+  term_place = w.is term_at.0 (ap (λ (l : List ℕ). get_elem? l 0) term_at.1)
+
+  pub term_there : IsSome r
+  term_there = rw term_place (search rules)
+
+  pub term_found : {a : Place} → r ≡ Some a → drop a.start s ≡ p.term
+  unfolding tagged field_end places_from
+  term_found {a} ea =
+      let h = accepted_parts s p e in
+      let (q, one, is) = one_mapped (contents_at s) (tagged 0x32 s) p.term h.term in
+      let i : record { start = q + 3; end = field_end s q } ≡ a = cc (w.is q (ap (λ (l : List ℕ). get_elem? l 0) one)) in
+      let n = term_last (suc (length s)) s 0x30 0 q (omega arith) h.ordered one in
+      let m : length (drop (q + 3) s) ≤ pair_at s (q + 1) = simp length-drop (omega arith) in
+      rw (← i) (sym (take_all (pair_at s (q + 1)) (drop (q + 3) s) m) ∙ is)

@@ -9,7 +9,7 @@ use super::order::{in_order, languages_clash};
 use super::whole::{LANGUAGE, parts_whole};
 use format_fields::walk::says_over;
 use format_language::check::LANGUAGE_LIMIT;
-use outcome::{Answer, Reason, accept, refuse};
+use outcome::{Outcome, Reason};
 
 // A pack has at most so many bytes.
 pub const PACK_LIMIT: usize = 32768;
@@ -25,20 +25,20 @@ fn over_limit(pack: &[u8]) -> bool
 }
 
 // Check a pack: the lowest refusal of 1 to 4 that applies, or accepted.
-pub fn check_pack(pack: &[u8]) -> Answer
-    ensures { result.outcome ≡ checked (pack_of pack.now) }
+pub fn check_pack(pack: &[u8]) -> Outcome
+    ensures { result ≡ checked (pack_of pack.now) }
 {
     if over_limit(pack) {
-        return refuse(Reason::TooLong);
+        return Err(Reason::TooLong);
     }
     if !parts_whole(pack) {
-        return refuse(Reason::BrokenField);
+        return Err(Reason::BrokenField);
     }
     if !in_order(pack) {
-        return refuse(Reason::OutOfOrder);
+        return Err(Reason::OutOfOrder);
     }
     if languages_clash(pack) {
-        return refuse(Reason::ClassIsResult);
+        return Err(Reason::ClassIsResult);
     }
-    accept(0)
+    Ok(0)
 }

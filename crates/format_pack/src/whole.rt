@@ -43,10 +43,9 @@ fn parts_ordered(s: &[u8]) -> bool
     let mut last = LANGUAGE;
     let mut p = 0;
     while p < s.len() {
-        let e = end_if_whole(s, p);
-        if e == 0 {
+        let Some(e) = end_if_whole(s, p) else {
             return false;
-        }
+        };
         if !part_good(s, p, e) {
             return false;
         }

@@ -227,6 +227,9 @@ module _ (tag : ℕ) (s : List ℕ) (p : ℕ) where
     part_whole_lem here e w = cc (eq-eqb k tag here, end_whole s p e w, w.is)
 
 -- parts_whole
+pub not_zero : {n : ℕ} → 0 < n → n ≡ 0 → ⊥
+not_zero h e = absurd (omega arith)
+
 module _ (s : List ℕ) (a : ℕ) (ea : a ≡ part_end 0x20 s 0) where
   pub whole_source : a ≡ 0 → false ≡ is_some (parts_of s)
   whole_source h = sym (ap is_some (no_source s (sym ea ∙ h)))

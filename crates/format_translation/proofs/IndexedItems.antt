@@ -19,7 +19,7 @@ use Rattle.format_fields.proofs.Truth.{by_test}
 use Rattle.format_language.specs.Language.{kind_key, production_key}
 use Rattle.tree_reader.specs.Inner.Index.{put_all}
 use Rattle.tree_reader.proofs.Placed.{place_of, puts_length, puts_place, found, Groups, of_first, of_second, looked_kind, looked_name}
-use Rattle.format_translation.specs.Translation.{mapping, clause, Body, target_at, mapping_of, code_at, clause_of, mapped}
+use Rattle.format_translation.specs.Translation.{Body, target_at, mapping_of, code_at, clause_of, mapped}
 use Rattle.format_translation.specs.TranslationFile.{body_of}
 use Rattle.format_translation.specs.Inner.Items.{item_whole, item_at, IsMapping, IsClause, IsNumberedMapping, IsNumberedClause, ItemFacts, plain_mapping, plain_clause, numbered_mapping_lem, numbered_clause_lem, HoldsItems}
 use Rattle.format_translation.specs.Inner.ItemIndex.{target_before, code_before, SoundItems, IndexedItems, mapped_at, known_at}

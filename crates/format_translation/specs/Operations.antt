@@ -1,7 +1,6 @@
 -- The operations on translations (paper 01, "Operations and their refusals").
 use Rattle.std.specs.Prelude.{ℕ, not, List, length, ltb}
-use Rattle.outcome.specs.Outcome.{Result, value, refuse_if, ◌>>=◌, checked, written, output_after}
-use Rattle.outcome.specs.declared.Outcome.{Outcome}
+use Rattle.outcome.specs.Outcome.{Result, value, refuse_if, ◌>>=◌, checked, written, output_after, Outcome}
 use Rattle.outcome.specs.declared.Reason.TheVariants.{UnknownRoot, OutputTooShort}
 use Rattle.format_fields.specs.Lists.{is_some}
 use Rattle.tree_reader.specs.Syntax.{write, tree}

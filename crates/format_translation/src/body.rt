@@ -110,10 +110,9 @@ pub fn body_whole(s: &[u8]) -> bool
     let mut past = false;
     let mut p = 0;
     while p < s.len() {
-        let e = end_if_whole(s, p);
-        if e == 0 {
+        let Some(e) = end_if_whole(s, p) else {
             return false;
-        }
+        };
         if !item_good(s, p, e) {
             return false;
         }

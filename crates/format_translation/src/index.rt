@@ -8,7 +8,7 @@ ghost use Rattle.format_translation.specs.TranslationFile.{body_of};
 ghost use Rattle.format_translation.specs.Inner.ItemIndex.{SoundItems, IndexedItems, Mapped, mapped_by, mapped_at, known_at};
 
 use crate::body::is_clause;
-use format_fields::bytes::{byte_at, to_usize};
+use format_fields::bytes::byte_at;
 use format_fields::walk::{MAPPING, NAMES, key_at, order_at, whole_end};
 use tree_reader::index::put_all;
 use tree_reader::node::place_at;
@@ -53,7 +53,7 @@ pub fn put_uses(body: &[u8], uses: &mut [u8])
 pub fn mapped_by(uses: &[u8], kind: u8, number: u8) -> u8
     ensures { result ≡ mapped_by uses.now kind number }
 {
-    let next = byte_at(uses, to_usize(kind) * NAMES + to_usize(number));
+    let next = byte_at(uses, usize::from(kind) * NAMES + usize::from(number));
     if next == 0 {
         return 0;
     }
@@ -65,7 +65,7 @@ pub fn map_kind(body: &[u8], index: &[u16], kind: u8) -> u8
     requires { SoundItems index.now body.now × (kind < 32) }
     ensures { (result ≡ mapped_at body.now index.now kind) × (result < 32) }
 {
-    let place = place_at(index, to_usize(kind));
+    let place = place_at(index, usize::from(kind));
     if place == 0 {
         return 0;
     }

@@ -1,5 +1,5 @@
 // The parts of a translation: the field of its source, the field of its target, and its body.
-ghost use Rattle.std.specs.Prelude.{◌≡◌, ◌||◌, ◌≤◌, ltb, length};
+ghost use Rattle.std.specs.Prelude.{◌≡◌, ◌||◌, ◌≤◌, ltb, length, ℕ, ◌<◌, Some, None};
 ghost use Rattle.std.proofs.Math.Option.{some};
 ghost use Rattle.format_fields.specs.Fields.{has_over};
 ghost use Rattle.format_fields.specs.Lists.{is_some};
@@ -34,33 +34,29 @@ pub fn over_limit(s: &[u8]) -> bool
     says_over(s, SOURCE, TARGET, LANGUAGE_LIMIT)
 }
 
-// Where the whole field of this tag at p ends, or 0 where there is none.
-fn part_end(s: &[u8], p: usize, tag: u8) -> usize
+// Where the whole field of this tag at p ends, where there is one.
+fn part_end(s: &[u8], p: usize, tag: u8) -> Option<usize>
     requires { p ≤ length s.now }
-    ensures { (result ≡ part_end tag s.now p) × (result ≤ length s.now) }
+    ensures none { result ≡ None → 0 ≡ part_end tag s.now p }
+    ensures some { (e : ℕ) → result ≡ Some e → (e ≡ part_end tag s.now p) × (0 < e) × (e ≤ length s.now) }
 {
-    let e = end_if_whole(s, p);
-    if e == 0 {
-        return 0;
-    }
+    let e = end_if_whole(s, p)?;
     if s[p] != tag {
-        return 0;
+        return None;
     }
-    e
+    Some(e)
 }
 
 // The file is a source, a target and a body, each of whole fields.
 pub fn parts_whole(s: &[u8]) -> bool
     ensures { result ≡ is_some (parts_of s.now) }
 {
-    let a = part_end(s, 0, SOURCE);
-    if a == 0 {
+    let Some(a) = part_end(s, 0, SOURCE) else {
         return false;
-    }
-    let b = part_end(s, a, TARGET);
-    if b == 0 {
+    };
+    let Some(b) = part_end(s, a, TARGET) else {
         return false;
-    }
+    };
     if !entries_whole(&s[3..a]) {
         return false;
     }

@@ -1,4 +1,5 @@
 -- The law of runs holds.
+use Rattle.std.specs.Prelude.{Err}
 use Prim.Native.Nat.{ℕ, ◌<◌}
 use mathlib.Core.Path.{◌≡◌, refl, ap, sym, subst, ◌∙◌}
 use mathlib.Core.Logic.{◌⊎◌, inl, inr, ⊎_elim}
@@ -14,7 +15,6 @@ use Rattle.format_fields.specs.Fields.{Field}
 use Rattle.format_fields.specs.Lists.{is_some}
 use Rattle.outcome.specs.declared.Reason.{Reason}
 use Rattle.outcome.specs.declared.Reason.TheVariants.{UnknownRoot, TooDeep, OutputTooShort}
-use Rattle.outcome.specs.declared.Outcome.TheVariants.{Accepted, Refused}
 use Rattle.format_fields.proofs.Truth.{by_test, false_true, none_some, some_inj, some_is}
 use Rattle.format_fields.proofs.Codec.{refused_value}
 use Rattle.format_language.specs.Language.{Language, is_in, clashes}
@@ -149,18 +149,12 @@ put_same : (r : Result (List ℕ)) (b c : List ℕ) → put_out (written r) (out
 put_same (value x) b c = put_out_lem b (value x) x refl ∙ sym (put_out_lem c (value x) x refl)
 put_same (refused r) b c = refl
 
-refused_written : (r : Result (List ℕ)) (q : Reason) → r ≡ refused q → written r ≡ Refused q
+refused_written : (r : Result (List ℕ)) (q : Reason) → r ≡ refused q → written r ≡ Err q
 refused_written r q e = rw e
 
-written_refused : (r : Result (List ℕ)) (q : Reason) → written r ≡ Refused q → r ≡ refused q
-written_refused (value x) q e = absurd (clash (length x) q e)
-  where
-    clash : (n : ℕ) (q : Reason) → Accepted n ≡ Refused q → ⊥
-    clash n q e = let z : ◌≡◌ {A = ℕ} 0 1 = cc in omega arith
-written_refused (refused p) q e = ap refused (same p q e)
-  where
-    same : (p q : Reason) → Refused p ≡ Refused q → p ≡ q
-    same p q e = cc
+written_refused : (r : Result (List ℕ)) (q : Reason) → written r ≡ Err q → r ≡ refused q
+written_refused (value x) q e = cc
+written_refused (refused p) q e = let i : p ≡ q = cc in ap refused i
 
 -- Two runs that come to the same are the same with equally long outputs.
 same_run : (J F bytes middle : List ℕ) (root n kind number : ℕ) (b c : List ℕ) → length c ≡ length b

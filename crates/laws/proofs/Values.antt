@@ -1,9 +1,9 @@
 -- Whatever reduce accepts is a translation that the check accepts (document 000: C.14, C.16, C.18, and "without").
+use Rattle.std.specs.Prelude.{Ok}
 use Prim.Native.Nat.{ℕ}
 use mathlib.Core.Path.{◌≡◌, ap, sym, ◌∙◌}
 use mathlib.Core.List.{List}
 use Rattle.outcome.specs.Outcome.{value, checked}
-use Rattle.outcome.specs.declared.Outcome.TheVariants.{Accepted}
 use Rattle.format_translation.specs.TranslationFile.{encode_translation, translation_of}
 use Rattle.format_translation.specs.Operations.{check_translation}
 use Rattle.reduce_operators.proofs.Proper.{good_back}
@@ -15,7 +15,7 @@ use Rattle.laws.proofs.Reductions.{constants_good}
 use Rattle.laws.proofs.Signs.{value_good}
 
 pub reduced_checked : (pack : List ℕ) (workspace output : ℕ) (bytes : List ℕ) → reduce_bytes pack workspace output ≡ value bytes
-    → check_translation bytes ≡ Accepted 0
+    → check_translation bytes ≡ Ok 0
 unfolding reduce_bytes work check_translation
 reduced_checked pack workspace output bytes e =
     let a = step_value (ready pack workspace output) work e in

@@ -1,8 +1,7 @@
 -- What the laws speak of: packs that differ only in field 32, what an operation put out, and how two reductions compare.
 use Rattle.std.specs.Prelude.{ℕ, ◌≤◌, ◌≡◌, List, [], ◌∷◌, ◌++◌, length, take}
-use Rattle.outcome.specs.Outcome.{number_of, length_of}
+use Rattle.outcome.specs.Outcome.{number_of, length_of, Outcome}
 use Rattle.format_fields.specs.Fields.{Field, field, encode_fields}
-use Rattle.outcome.specs.declared.Outcome.{Outcome}
 use Rattle.format_pack.specs.Terms.{Term, translations, write_term, term_levels}
 use Rattle.format_pack.specs.Pack.{pack_limit, term_limit}
 use Rattle.reduce_operation.specs.Operations.{Reduced, reduce}

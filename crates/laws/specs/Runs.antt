@@ -1,10 +1,9 @@
 -- The law of runs (paper 01, "Rules", last item, and point 3; over every number, paper 02, 2026-13): what a join's run gives,
 -- beside the two runs in turn.
-use Rattle.std.specs.Prelude.{ℕ, ◌<◌, ◌≡◌, Bool, true, false, List, [], length}
+use Rattle.std.specs.Prelude.{ℕ, ◌<◌, ◌≡◌, Bool, true, false, List, [], length, Err}
 use Rattle.outcome.specs.Outcome.{Result, value, refused, number_of}
 use Rattle.format_fields.specs.Lists.{is_some}
 use Rattle.format_fields.specs.Fields.{Field}
-use Rattle.outcome.specs.declared.Outcome.TheVariants.{Refused}
 use Rattle.outcome.specs.declared.Reason.{Reason}
 use Rattle.outcome.specs.declared.Reason.TheVariants.{UnknownRoot, IllegalTree, TooDeep}
 use Rattle.format_language.specs.Language.{Language}
@@ -62,12 +61,12 @@ pub record RunsOfJoin (first second joined : Ran) (b c : List ℕ) (target : Lan
   -- Where the join's run is accepted, its bytes are a legal tree of that kind in that target.
   pub legal : number_of joined.outcome ≡ 0 → Legal target kind (put_out joined.outcome joined.output)
   -- Where the root lacks the number, the join's run refuses it with 14.
-  pub lacks : there ≡ false → joined.outcome ≡ Refused UnknownRoot
+  pub lacks : there ≡ false → joined.outcome ≡ Err UnknownRoot
   -- Where it has the number and the first run refuses the tree, the join's run refuses it with the same number.
-  pub refused : there ≡ true → (reason : Reason) → OfTree reason → first.outcome ≡ Refused reason → joined.outcome ≡ Refused reason
+  pub refused : there ≡ true → (reason : Reason) → OfTree reason → first.outcome ≡ Err reason → joined.outcome ≡ Err reason
   -- Where the first run is accepted and the second does not refuse the middle tree as too deep, the join's run and the
   -- second give the same with equally long outputs, also where that is 17.
-  pub agrees : number_of first.outcome ≡ 0 → (second.outcome ≡ Refused TooDeep → ⊥) → length c ≡ length b
+  pub agrees : number_of first.outcome ≡ 0 → (second.outcome ≡ Err TooDeep → ⊥) → length c ≡ length b
       → SameRun joined second
 
 -- The law. The first translation is the join's second operand, g; f runs after it. Each of the three is what the pack

@@ -16,7 +16,7 @@ use Rattle.format_language.specs.Language.{Language}
 use Rattle.format_language.specs.LanguageFile.{language_of}
 use Rattle.tree_reader.specs.Code.{Code, Codes}
 use Rattle.tree_reader.specs.Typing.{Typed, TypedAll, typed_node, typed_token, typed_argument, typed_nil, typed_cons}
-use Rattle.tree_reader.specs.Syntax.{read, write, tree, done}
+use Rattle.tree_reader.specs.Syntax.{read, write, tree}
 use Rattle.tree_reader.specs.Operations.{tree_levels, whole_tree, tree_of}
 use Rattle.tree_reader.proofs.Sound.{read_done}
 use Rattle.check_operations.proofs.Legal.{tree_done, tree_right}

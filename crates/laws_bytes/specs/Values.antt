@@ -1,8 +1,7 @@
 -- What holds of every pack: what reduce puts out is accepted by the check of a translation (document 000: C.14, C.16, C.18), and
 -- name bytes by formula (paper 02, 2026-04).
-use Rattle.std.specs.Prelude.{ℕ, ◌+◌, ◌%◌, ◌≡◌, Bool, true, false, List, ltb}
+use Rattle.std.specs.Prelude.{ℕ, ◌+◌, ◌%◌, ◌≡◌, Bool, true, false, List, ltb, Ok}
 use Rattle.outcome.specs.Outcome.{value}
-use Rattle.outcome.specs.declared.Outcome.TheVariants.{Accepted}
 use Rattle.format_fields.specs.Fields.{byte_at}
 use Rattle.format_pack.specs.Terms.{Sort, Term, constant, source_of, target_of, make, join, identity, variable, without, sum, bind, write_term}
 use Rattle.format_translation.specs.Operations.{check_translation}
@@ -12,7 +11,7 @@ use Rattle.reduce_operation.specs.Operations.{reduce_bytes}
 abbrev pub ReducedChecks : Type 0
 ReducedChecks =
     (pack : List ℕ) (workspace output : ℕ) (bytes : List ℕ) → reduce_bytes pack workspace output ≡ value bytes
-    → check_translation bytes ≡ Accepted 0
+    → check_translation bytes ≡ Ok 0
 
 -- A number follows the sign of a term, or ends it, as b does (paper 01, "The sixteen term signs").
 abbrev pub has_number : (s : Sort) → Term s → Bool

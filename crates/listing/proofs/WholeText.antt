@@ -1,46 +1,25 @@
 -- The whole text: a law for each return of the code, and that it is the text of the pack.
-use Prim.Native.Nat.{ℕ, ◌+◌, ◌*◌, ◌≤◌}
+use Rattle.std.specs.Prelude.{Ok}
+use Prim.Native.Nat.{ℕ, ◌≤◌}
 use mathlib.Core.Path.{◌≡◌, refl, sym, ap, ◌∙◌, subst}
 use mathlib.Core.List.{List, ◌++◌}
 use native.Mathlib.Omega.{arith}
 use lib.ListN.{length, take, drop, length-append}
 use lib.Seq.{take-append_seam, length-take-le}
 use Rattle.io.specs.Counts.{IsPrefixLen}
-use Rattle.outcome.specs.Outcome.{Result, value, refused, ◌>>=◌, reason_number, number_of, written, output_after}
-use Rattle.outcome.specs.declared.Reason.{Reason}
-use Rattle.outcome.specs.declared.Outcome.{Outcome}
-use Rattle.outcome.specs.declared.Outcome.TheVariants.{Accepted, Refused}
+use Rattle.outcome.specs.Outcome.{Result, value, refused, ◌>>=◌, written, output_after, Outcome}
 use Rattle.format_translation.specs.Translation.{Translation}
 use Rattle.format_translation.specs.TranslationFile.{encode_translation}
 use Rattle.reduce_signs.specs.Evaluation.{constants_of, nothing_bound, evaluate}
 use Rattle.reduce_operation.specs.Operations.{Ready, ready, work, reduce_bytes, reduce}
-use Rattle.program_text.specs.Text.{accepted_word, refused_word, first_line}
+use Rattle.program_text.specs.Text.{accepted_word, first_line}
 use Rattle.listing.specs.Listing.{reduced, text_of, listing}
 use Rattle.listing.specs.Inner.Walk.{clause_lines, outcome_text}
 use Rattle.program_text.specs.Inner.Putting.{Puts}
-use Rattle.program_text.proofs.Putting.{puts_then}
 use Rattle.listing.proofs.Walk.{clause_lines_lem}
 
--- The clauses fit behind the first line.
-pub clauses_fit_lem : (n at : ℕ) (output line o o' : List ℕ) → n ≤ length output → length output ≤ 4096 → at ≤ 14 → Puts line o o' 0 at
-    → 12320 ≤ length o → at + 3 * length (take n output) ≤ length o'
-clauses_fit_lem n at output line o o' h k a x t = omega (arith, length-take-le n output h, x.long)
-
--- `put_outcome`: accepted, and refused
-module _ (outcome : Outcome) (output o : List ℕ) where
-  pub text_accepted : (n : ℕ) → outcome ≡ Accepted n → (o' o'' : List ℕ) (p q r : ℕ)
-      → Puts (first_line accepted_word n) o o' p q → Puts (clause_lines (take n output)) o' o'' q r → Puts (outcome_text outcome output) o o'' p r
-  text_accepted n e o' o'' p q r x y = subst (λ (t : Outcome). Puts (outcome_text t output) o o'' p r) (sym e) (puts_then _ _ _ _ _ _ _ _ x y)
-
-  pub text_refused : (reason : Reason) → outcome ≡ Refused reason → (n : ℕ) → n ≡ number_of outcome → (o' : List ℕ) (p r : ℕ)
-      → Puts (first_line refused_word n) o o' p r → Puts (outcome_text outcome output) o o' p r
-  text_refused reason e n k o' p r x =
-      let m : n ≡ reason_number reason = k ∙ ap number_of e in
-      let y : Puts (first_line refused_word (reason_number reason)) o o' p r = subst (λ (j : ℕ). Puts (first_line refused_word j) o o' p r) m x in
-      subst (λ (t : Outcome). Puts (outcome_text t output) o o' p r) (sym e) y
-
 -- The length of what is accepted lies within the output.
-within : (output : List ℕ) (n : ℕ) (result : Result (List ℕ)) → written result ≡ Accepted n → n ≤ length (output_after output result)
+within : (output : List ℕ) (n : ℕ) (result : Result (List ℕ)) → written result ≡ Ok n → n ≤ length (output_after output result)
 within output n (value bytes) e = let k : length bytes ≡ n = cc in omega (arith, length-append bytes (drop (length bytes) output))
 within output n (refused r) e = let z : ◌≡◌ {A = ℕ} 0 1 = cc in absurd (omega arith)
 
@@ -68,7 +47,7 @@ same_text output (refused r) = refl
 -- `list`
 module _ (pack workspace output : List ℕ) (outcome : Outcome) (after : List ℕ)
     (eo : outcome ≡ (reduce pack workspace output).outcome) (ea : after ≡ (reduce pack workspace output).output) where
-  pub length_within : (n : ℕ) → outcome ≡ Accepted n → n ≤ length after
+  pub length_within : (n : ℕ) → outcome ≡ Ok n → n ≤ length after
   unfolding reduce
   length_within n e =
       let result = reduce_bytes pack (length workspace) (length output) in

@@ -4,7 +4,6 @@ ghost use Rattle.format_fields.specs.Inner.Places.{EndsAt};
 ghost use Rattle.listing.specs.Inner.Walk as Walk;
 ghost use Rattle.program_text.specs.Inner.Putting.{Puts};
 
-use format_fields::bytes::byte_at;
 use format_fields::walk::field_end;
 use format_translation::body::{CLAUSE, NUMBERED_CLAUSE};
 use program_text::text::{put, put_hex, put_number};
@@ -15,8 +14,8 @@ fn put_clause(clause: &[u8], text: &mut [u8], at: usize) -> usize
     ensures { Puts (Walk.contents_line clause.now) text.old text.new at result
         × (result ≤ at + 2 * length clause.now + 7) }
 {
-    let name = put_number(byte_at(clause, 0) as u64, b'.', text, at);
-    let code = put_number(byte_at(clause, 1) as u64, b' ', text, name);
+    let name = put_number(u64::from(clause[0]), b'.', text, at);
+    let code = put_number(u64::from(clause[1]), b' ', text, name);
     let end = put_hex(&clause[2..], text, code);
     put(b'\n', text, end)
 }
@@ -27,9 +26,9 @@ fn put_numbered(clause: &[u8], text: &mut [u8], at: usize) -> usize
     ensures { Puts (Walk.numbered_contents clause.now) text.old text.new at result
         × (result ≤ at + 2 * length clause.now + 10) }
 {
-    let name = put_number(byte_at(clause, 0) as u64, b'.', text, at);
-    let number = put_number(byte_at(clause, 1) as u64, b'.', text, name);
-    let code = put_number(byte_at(clause, 2) as u64, b' ', text, number);
+    let name = put_number(u64::from(clause[0]), b'.', text, at);
+    let number = put_number(u64::from(clause[1]), b'.', text, name);
+    let code = put_number(u64::from(clause[2]), b' ', text, number);
     let end = put_hex(&clause[3..], text, code);
     put(b'\n', text, end)
 }

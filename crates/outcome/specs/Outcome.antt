@@ -1,9 +1,8 @@
 -- Outcomes (paper 01, "Operations and their refusals"): every answer is a number, 0 for accepted, and a length.
-use Rattle.std.specs.Prelude.{ℕ, Bool, true, false, List, ◌++◌, length, drop}
+use Rattle.std.specs.Prelude as Std
+use Rattle.std.specs.Prelude.{ℕ, Bool, true, false, List, ◌++◌, length, drop, Err, Ok}
 use Rattle.outcome.specs.declared.Reason.{Reason}
 use Rattle.outcome.specs.declared.Reason.TheVariants.{TooLong, BrokenField, OutOfOrder, ClassIsResult, WrongMapping, WrongClauses, IllegalCode, IllegalTerm, BuffersTooShort, UnboundVariable, ValueTooLarge, SumUnfit, JoinUnfit, UnknownRoot, IllegalTree, TooDeep, OutputTooShort, BrokenTable, ScoreOutOfRange, NotAnExport, NoBlock, NotIndexed, NoSource, LimitOutOfRange, Hidden, NumberUnfit}
-use Rattle.outcome.specs.declared.Outcome.{Outcome}
-use Rattle.outcome.specs.declared.Outcome.TheVariants.{Accepted, Refused}
 
 -- The number of each refusal (paper 01; paper 02: 18 and 19 by 2026-03, 20 by 2026-05, 21 by 2026-06, 22 by 2026-08,
 -- 23 and 24 by 2026-09, 25 by 2026-12, 26 by 2026-13).
@@ -61,15 +60,19 @@ reason_number Hidden = 25
 -- a mapping number is above 15 in a join, or not 0 where only 0 is taken
 reason_number NumberUnfit = 26
 
+-- What an operation answers: the length of what it wrote, or why it refuses.
+abbrev pub Outcome : Type 0
+Outcome = Std.Result ℕ Reason
+
 -- The number that an outsider sees.
 abbrev pub number_of : Outcome → ℕ
-number_of (Accepted n) = 0
-number_of (Refused r) = reason_number r
+number_of (Ok n) = 0
+number_of (Err r) = reason_number r
 
 -- The length that an outsider sees: 0 where it is refused.
 abbrev pub length_of : Outcome → ℕ
-length_of (Accepted n) = n
-length_of (Refused r) = 0
+length_of (Ok n) = n
+length_of (Err r) = 0
 
 -- What a step of an operation comes to: a value, or the reason why there is none.
 pub data Result (A : Type 0) : Type 0 where
@@ -89,13 +92,13 @@ refuse_if false r rest = rest
 
 -- The outcome of a check, which has no output and always length 0.
 abbrev pub checked : {A : Type 0} → Result A → Outcome
-checked (value a) = Accepted 0
-checked (refused r) = Refused r
+checked (value a) = Ok 0
+checked (refused r) = Err r
 
 -- The outcome of an operation that writes bytes.
 abbrev pub written : Result (List ℕ) → Outcome
-written (value bytes) = Accepted (length bytes)
-written (refused r) = Refused r
+written (value bytes) = Ok (length bytes)
+written (refused r) = Err r
 
 -- The lent output at exit: the result first and its other bytes unchanged, or on refusal unchanged.
 abbrev pub output_after : List ℕ → Result (List ℕ) → List ℕ

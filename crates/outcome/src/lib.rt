@@ -5,7 +5,7 @@ ghost use Rattle.std.specs.Prelude.{◌≡◌};
 ghost use Rattle.outcome.specs.Outcome.{number_of, length_of, reason_number};
 
 // Why an operation refuses: 1 to 26, in this order.
-#[derive(Clone, Copy)]
+#[derive(Clone, Copy, Debug, PartialEq, Eq)]
 pub enum Reason {
     TooLong,
     BrokenField,
@@ -36,67 +36,56 @@ pub enum Reason {
 }
 
 // An operation accepts, with the length of what it wrote, or refuses.
-#[derive(Clone, Copy)]
-pub enum Outcome {
-    Accepted(usize),
-    Refused(Reason),
-}
+pub type Outcome = Result<usize, Reason>;
 
 // What an operation hands back.
-#[derive(Clone, Copy)]
+#[derive(Clone, Copy, Debug, PartialEq, Eq)]
 pub struct Answer {
     pub outcome: Outcome,
 }
 
-// A refusal.
-pub fn refuse(reason: Reason) -> Answer
-    ensures { result.outcome ≡ Outcome.Refused reason }
-{
-    Answer {
-        outcome: Outcome::Refused(reason),
-    }
-}
+// The answer with this outcome.
+impl From<Outcome> for Answer {
+    ghost from_gives = { λ outcome answer. answer.outcome ≡ outcome };
 
-// An acceptance, of a result of this length.
-pub fn accept(length: usize) -> Answer
-    ensures { result.outcome ≡ Outcome.Accepted length }
-{
-    Answer {
-        outcome: Outcome::Accepted(length),
+    fn from(outcome: Outcome) -> Answer {
+        Answer { outcome }
     }
 }
 
 // The number of a refusal.
-fn reason_number(reason: Reason) -> u32
-    ensures { result ≡ reason_number reason }
-{
-    match reason {
-        Reason::TooLong => 1,
-        Reason::BrokenField => 2,
-        Reason::OutOfOrder => 3,
-        Reason::ClassIsResult => 4,
-        Reason::WrongMapping => 5,
-        Reason::WrongClauses => 6,
-        Reason::IllegalCode => 7,
-        Reason::IllegalTerm => 8,
-        Reason::BuffersTooShort => 9,
-        Reason::UnboundVariable => 10,
-        Reason::ValueTooLarge => 11,
-        Reason::SumUnfit => 12,
-        Reason::JoinUnfit => 13,
-        Reason::UnknownRoot => 14,
-        Reason::IllegalTree => 15,
-        Reason::TooDeep => 16,
-        Reason::OutputTooShort => 17,
-        Reason::BrokenTable => 18,
-        Reason::ScoreOutOfRange => 19,
-        Reason::NotAnExport => 20,
-        Reason::NoBlock => 21,
-        Reason::NotIndexed => 22,
-        Reason::NoSource => 23,
-        Reason::LimitOutOfRange => 24,
-        Reason::Hidden => 25,
-        Reason::NumberUnfit => 26,
+impl From<Reason> for u32 {
+    ghost from_gives = { λ reason number. number ≡ reason_number reason };
+
+    fn from(reason: Reason) -> u32 {
+        match reason {
+            Reason::TooLong => 1,
+            Reason::BrokenField => 2,
+            Reason::OutOfOrder => 3,
+            Reason::ClassIsResult => 4,
+            Reason::WrongMapping => 5,
+            Reason::WrongClauses => 6,
+            Reason::IllegalCode => 7,
+            Reason::IllegalTerm => 8,
+            Reason::BuffersTooShort => 9,
+            Reason::UnboundVariable => 10,
+            Reason::ValueTooLarge => 11,
+            Reason::SumUnfit => 12,
+            Reason::JoinUnfit => 13,
+            Reason::UnknownRoot => 14,
+            Reason::IllegalTree => 15,
+            Reason::TooDeep => 16,
+            Reason::OutputTooShort => 17,
+            Reason::BrokenTable => 18,
+            Reason::ScoreOutOfRange => 19,
+            Reason::NotAnExport => 20,
+            Reason::NoBlock => 21,
+            Reason::NotIndexed => 22,
+            Reason::NoSource => 23,
+            Reason::LimitOutOfRange => 24,
+            Reason::Hidden => 25,
+            Reason::NumberUnfit => 26,
+        }
     }
 }
 
@@ -104,18 +93,12 @@ fn reason_number(reason: Reason) -> u32
 pub fn number(outcome: Outcome) -> u32
     ensures { result ≡ number_of outcome }
 {
-    match outcome {
-        Outcome::Accepted(length) => 0,
-        Outcome::Refused(reason) => reason_number(reason),
-    }
+    outcome.map_or_else(u32::from, |_| 0)
 }
 
 // The length of an outcome: 0 where it is refused.
 pub fn length_of(outcome: Outcome) -> u64
     ensures { result ≡ length_of outcome }
 {
-    match outcome {
-        Outcome::Accepted(length) => length as u64,
-        Outcome::Refused(reason) => 0,
-    }
+    outcome.map_or(0, |length| length as u64)
 }

@@ -4,8 +4,8 @@ use mathlib.Core.Path.{◌≡◌, refl, sym, ap, ◌∙◌, subst}
 use mathlib.Core.List.{List, [], ◌∷◌, ◌++◌, append_assoc, append-nil}
 use native.Mathlib.Numerals.{add-one}
 use native.Mathlib.Omega.{arith}
-use lib.ListN.{length, take, set, get_or, replicate, length-set, length-append, length-replicate}
-use lib.Seq.{take-suc, take_all, take-set-le, get_or-set_same}
+use lib.ListN.{length, take, get_or, replicate, length-append, length-replicate}
+use lib.Seq.{take-suc}
 use Rattle.format_fields.specs.Lists.{concat_map}
 use Rattle.format_fields.proofs.Codec.{concat_append}
 use Rattle.format_fields.specs.Decimal.{decimal}
@@ -34,20 +34,6 @@ puts_nothing o p h = record {
   bytes = sym (append-nil (take p o));
 }
 
--- `put`
-pub put_one : (b : ℕ) (o : List ℕ) (p : ℕ) → p < length o → Puts (b ∷ []) o (set o p b) p (p + 1)
-put_one b o p h =
-    let k : p < length (set o p b) = simp length-set h in
-    record {
-      end = omega arith;
-      fits = omega arith;
-      long = length-set o p b;
-      bytes =
-          ap (λ (n : ℕ). take n (set o p b)) (add-one p)
-          ∙ (take-suc (set o p b) p 0 k
-          ∙ cc (take-set-le p o p b (omega arith), get_or-set_same o p b 0 h));
-    }
-
 -- `put_pair`
 pub puts_pair : (b h l : ℕ) (o o' o'' : List ℕ) (p q r : ℕ) → h ≡ capital (b / 16) → l ≡ capital (b % 16)
     → Puts (h ∷ []) o o' p q → Puts (l ∷ []) o' o'' q r → Puts (pair_of b) o o'' p r
@@ -55,18 +41,7 @@ unfolding pair_of
 puts_pair b h l o o' o'' p q r eh el x y =
     subst (λ (v : List ℕ). Puts v o o'' p r) (cc (eh, el)) (puts_then (h ∷ []) (l ∷ []) o o' o'' p q r x y)
 
--- `put_bytes`: a turn, and the end
-module _ (b o o' : List ℕ) (p q i : ℕ) (x : Puts (take i b) o o' p q) where
-  pub bytes_again : i < length b → (o'' : List ℕ) (r : ℕ) → Puts (get_or b i 0 ∷ []) o' o'' q r → Puts (take (i + 1) b) o o'' p r
-  bytes_again h o'' r y =
-      subst (λ (l : List ℕ). Puts l o o'' p r)
-      (sym (take-suc b i 0 h) ∙ ap (λ (n : ℕ). take n b) (sym (add-one i)))
-      (puts_then _ _ _ _ _ _ _ _ x y)
-
-  pub bytes_done : length b ≤ i → Puts b o o' p q
-  bytes_done h = subst (λ (l : List ℕ). Puts l o o' p q) (take_all i b h) x
-
--- `put_hex`: a turn, and the end
+-- `put_hex`: a turn
 module _ (f : ℕ → List ℕ) (b o o' : List ℕ) (p q i : ℕ) (x : Puts (concat_map f (take i b)) o o' p q) where
   next_is : i < length b → concat_map f (take i b) ++ f (get_or b i 0) ≡ concat_map f (take (i + 1) b)
   unfolding concat_map
@@ -78,9 +53,6 @@ module _ (f : ℕ → List ℕ) (b o o' : List ℕ) (p q i : ℕ) (x : Puts (con
 
   pub each_again : i < length b → (o'' : List ℕ) (r : ℕ) → Puts (f (get_or b i 0)) o' o'' q r → Puts (concat_map f (take (i + 1) b)) o o'' p r
   each_again h o'' r y = subst (λ (l : List ℕ). Puts l o o'' p r) (next_is h) (puts_then _ _ _ _ _ _ _ _ x y)
-
-  pub each_done : length b ≤ i → Puts (concat_map f b) o o' p q
-  each_done h = subst (λ (l : List ℕ). Puts (concat_map f l) o o' p q) (take_all i b h) x
 
 -- `put_number`
 pub puts_marked : (n m : ℕ) (o o' o'' : List ℕ) (p q r : ℕ) → Puts (decimal n) o o' p q → Puts (m ∷ []) o' o'' q r → Puts (marked n m) o o'' p r

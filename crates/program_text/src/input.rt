@@ -3,7 +3,9 @@ ghost use Rattle.std.specs.Prelude.{◌≡◌, ◌≤◌, length, take};
 ghost use Rattle.io.specs.Counts.{IsPrefixLen};
 ghost use Rattle.std.specs.Io.KnownBytes.{Consumes};
 
+use std::fs::File;
 use std::io::Read;
+use std::rt::Files;
 
 // Reads until the buffer is full, the input ends or a read fails, and answers how many bytes stand at its start:
 // the next bytes of the input, of which no other byte is lost.
@@ -14,12 +16,22 @@ pub fn read_full<R: Read>(reader: &mut R, bytes: &mut [u8]) -> usize
     let mut done = 0;
     while done < bytes.len() {
         match reader.read(&mut bytes[done..]) {
-            Ok(0) => break,
+            Ok(0) | Err(_) => break,
             Ok(n) => done += n,
-            Err(_) => break,
         }
     }
     done
+}
+
+// Reads the start of a file, as much of it as the buffer takes. A file that is not there counts as empty.
+pub fn read_file<'a>(files: &impl Files, name: &str, bytes: &'a mut [u8]) -> &'a [u8]
+    ensures { length result.now ≤ length bytes.old }
+{
+    let length = match File::open(files, name) {
+        Ok(mut file) => read_full(&mut file, bytes),
+        Err(_) => 0,
+    };
+    &bytes[..length]
 }
 
 #[cfg(test)]

@@ -19,12 +19,8 @@ pub fn put_bytes(bytes: &[u8], text: &mut [u8], at: usize) -> usize
     requires { at + length bytes.now ≤ length text.old }
     ensures { Puts bytes.now text.old text.new at result }
 {
-    let mut end = at;
-    let mut i = 0;
-    while i < bytes.len() {
-        end = put(bytes[i], text, end);
-        i += 1;
-    }
+    let end = at + bytes.len();
+    text[at..end].copy_from_slice(bytes);
     end
 }
 
@@ -70,10 +66,8 @@ pub fn put_hex(bytes: &[u8], text: &mut [u8], at: usize) -> usize
     ensures { Puts (concat_map Text.pair_of bytes.now) text.old text.new at result × (result ≡ at + 2 * length bytes.now) }
 {
     let mut end = at;
-    let mut i = 0;
-    while i < bytes.len() {
-        end = put_pair(bytes[i], text, end);
-        i += 1;
+    for &byte in bytes {
+        end = put_pair(byte, text, end);
     }
     end
 }

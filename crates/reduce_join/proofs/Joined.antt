@@ -1,4 +1,5 @@
 -- What the join gives: the check of the joined value refuses it exactly if it exceeds a limit.
+use Rattle.std.specs.Prelude.{Err, None, Ok, Option}
 use Prim.Native.Nat.{ℕ, ◌≤◌, ◌<◌}
 use mathlib.Core.Path.{◌≡◌, refl, sym, ap, subst, ◌∙◌}
 use mathlib.Core.Bool.{Bool, true, false, ◌&&◌}
@@ -6,13 +7,10 @@ use mathlib.Core.Option.{some}
 use mathlib.Core.List.{List}
 use native.Mathlib.Omega.{arith}
 use lib.ListN.{length, take}
-use lib.Seq.{length-take-le}
 use lib.Dec.{ltb}
 use borrow.Author.Tests.{ltb-true, ltb-false}
 use Rattle.format_fields.specs.Lists.{all, any, is_some}
-use Rattle.outcome.specs.Outcome.{value, refused, refuse_if, checked, written}
-use Rattle.outcome.specs.declared.Outcome.{Outcome}
-use Rattle.outcome.specs.declared.Outcome.TheVariants.{Accepted, Refused}
+use Rattle.outcome.specs.Outcome.{value, refused, refuse_if, checked, written, Outcome}
 use Rattle.outcome.specs.declared.Reason.{Reason}
 use Rattle.outcome.specs.declared.Reason.TheVariants.{ValueTooLarge, JoinUnfit, NumberUnfit}
 use Rattle.format_fields.proofs.Truth.{by_test, and_both, both_and, or_false, all_mem, mem_all, any_false, some_is}
@@ -33,8 +31,6 @@ use Rattle.reduce_operators.specs.Operators.{numbers_low, join_fits, joined, tra
 use Rattle.reduce_operators.specs.Inner.Numbers.{mapping_below}
 use Rattle.reduce_operators.proofs.Numbering.{low_mappings}
 use Rattle.reduce_operators.specs.Limits.{code_is_deep, language_exceeds, translation_exceeds}
-use Rattle.format_fields.specs.declared.copy.Stored.{Stored}
-use Rattle.format_fields.specs.declared.copy.Stored.TheVariants.{Full}
 use Rattle.format_fields.specs.Inner.Writing.{Stores}
 use Rattle.reduce_merge.specs.Inner.Parts.{lies_within}
 use Rattle.reduce_operators.specs.Inner.Values.{Gives, translation_bytes}
@@ -55,30 +51,27 @@ pub record Whole (v o' : List ℕ) (n : ℕ) : Type 0 where
   pub bytes : take n o' ≡ v
   pub long : n ≡ length v
 
-pub given_whole : (v o o' : List ℕ) (r : Outcome) → Gives (refuse_if (ltb 4096 (length v)) ValueTooLarge (value v)) o o' r → (n : ℕ) → r ≡ Accepted n → Whole v o' n
+pub given_whole : (v o o' : List ℕ) (r : Outcome) → Gives (refuse_if (ltb 4096 (length v)) ValueTooLarge (value v)) o o' r → (n : ℕ) → r ≡ Ok n → Whole v o' n
 given_whole v o o' r given n e =
     by_test (ltb 4096 (length v))
     (λ d.
-    let u : written (refuse_if (ltb 4096 (length v)) ValueTooLarge (value v)) ≡ Refused ValueTooLarge = rw d refl in
-    let z : Accepted n ≡ Refused ValueTooLarge = sym e ∙ (given.outcome ∙ u) in
+    let u : written (refuse_if (ltb 4096 (length v)) ValueTooLarge (value v)) ≡ Err ValueTooLarge = rw d refl in
+    let z : Ok n ≡ Err ValueTooLarge = sym e ∙ (given.outcome ∙ u) in
     let y : ◌≡◌ {A = ℕ} 0 1 = cc in
     absurd (omega arith))
     (λ d.
     let u : refuse_if (ltb 4096 (length v)) ValueTooLarge (value v) ≡ value v = rw d refl in
-    let z : Accepted n ≡ Accepted (length v) = sym e ∙ (given.outcome ∙ ap written u) in
+    let z : Ok n ≡ Ok (length v) = sym e ∙ (given.outcome ∙ ap written u) in
     let k : n ≡ length v = cc in
     let x = given.bytes v u in
     record { short = ltb-false 4096 (length v) d; room = omega (arith, x.0, given.long, k); bytes = rw k x.1; long = k })
 
-pub front_length : (v o' : List ℕ) (n : ℕ) → Whole v o' n → n ≡ length (take n o')
-front_length v o' n w = sym (length-take-le n o' w.room)
-
 -- `measure`
 module _ (v : List ℕ) (c o : Outcome) (e : o ≡ c) where
-  pub length_accepted : {n : ℕ} → o ≡ Accepted n → Accepted (length v) ≡ checked_length v c
+  pub length_accepted : {n : ℕ} → o ≡ Ok n → Ok (length v) ≡ checked_length v c
   length_accepted h = ap (checked_length v) (sym h ∙ e)
 
-  pub length_refused : {w : Reason} → o ≡ Refused w → Refused ValueTooLarge ≡ checked_length v c
+  pub length_refused : {w : Reason} → o ≡ Err w → Err ValueTooLarge ≡ checked_length v c
   length_refused h = ap (checked_length v) (sym h ∙ e)
 
 -- The value of a join of translations that files hold.
@@ -112,7 +105,7 @@ module _ (f g : Translation) (hf : Held f) (hg : Held g) (fits : join_fits f g �
   }
 
   -- What the check accepts is sound.
-  checked_sound : length (encode_translation (joined f g)) ≤ 4096 → {n : ℕ} → check_translation (encode_translation (joined f g)) ≡ Accepted n → Sound (joined f g)
+  checked_sound : length (encode_translation (joined f g)) ≤ 4096 → {n : ℕ} → check_translation (encode_translation (joined f g)) ≡ Ok n → Sound (joined f g)
   unfolding joined
   checked_sound h e =
       let a = accepts (encode_translation (joined f g)) refl e in
@@ -121,7 +114,7 @@ module _ (f g : Translation) (hf : Held f) (hg : Held g) (fits : join_fits f g �
       (sym (translation_back (joined f g) (whole h)) ∙ a.is)).0
 
   -- What the check refuses exceeds a limit.
-  checked_exceeds : length (encode_translation (joined f g)) ≤ 4096 → {w : Reason} → check_translation (encode_translation (joined f g)) ≡ Refused w
+  checked_exceeds : length (encode_translation (joined f g)) ≤ 4096 → {w : Reason} → check_translation (encode_translation (joined f g)) ≡ Err w
       → translation_bytes (value (joined f g)) ≡ refused ValueTooLarge
   unfolding translation_exceeds check_translation joined
   checked_exceeds h {w} e =
@@ -133,7 +126,7 @@ module _ (f g : Translation) (hf : Held f) (hg : Held g) (fits : join_fits f g �
       let c = or_false (ltb translation_limit (length (encode_translation (joined f g)))) (any (code_is_deep (joined f g)) (joined f g).body) b.1 in
       let s = sound_join f g first_good.sound second_good.sound fits low_first low_second (any_false (code_is_deep (joined f g)) (joined f g).body c.1) in
       let v = good_back (joined f g) (record { sound = s; source_short = second_good.source_short; target_short = first_good.target_short; short = h }) in
-      let z : Accepted 0 ≡ Refused w = sym (ap checked v) ∙ e in
+      let z : Ok 0 ≡ Err w = sym (ap checked v) ∙ e in
       let y : ◌≡◌ {A = ℕ} 0 1 = cc in
       absurd (omega arith))
 
@@ -144,21 +137,21 @@ module _ (f g : Translation) (hf : Held f) (hg : Held g) (fits : join_fits f g �
     unfolding joined
     made = rw (es, et, eb) (assembled_is (joined f g))
 
-    pub finish_refused : {w : Reason} → r ≡ Refused w → Gives (translation_bytes (value (joined f g))) o o' (Refused w)
+    pub finish_refused : {w : Reason} → r ≡ Err w → Gives (translation_bytes (value (joined f g))) o o' (Err w)
     finish_refused {w} e =
         by_test (ltb 4096 (length (assembled s t b)))
         (λ d.
         let over : 4096 < length (encode_translation (joined f g)) = omega (arith, ap length made, ltb-true 4096 (length (assembled s t b)) d) in
-        let v : written (refuse_if (ltb 4096 (length (assembled s t b))) ValueTooLarge (value (assembled s t b))) ≡ Refused ValueTooLarge = rw d refl in
+        let v : written (refuse_if (ltb 4096 (length (assembled s t b))) ValueTooLarge (value (assembled s t b))) ≡ Err ValueTooLarge = rw d refl in
         let q : ValueTooLarge ≡ w = cc given.outcome in
         rw (← q) (gives_refused _ o o' ValueTooLarge (whole_over (joined f g) over) given.long))
         (λ d.
-        let v : written (refuse_if (ltb 4096 (length (assembled s t b))) ValueTooLarge (value (assembled s t b))) ≡ Accepted (length (assembled s t b)) = rw d refl in
-        let z : Refused w ≡ Accepted (length (assembled s t b)) = sym e ∙ (given.outcome ∙ v) in
+        let v : written (refuse_if (ltb 4096 (length (assembled s t b))) ValueTooLarge (value (assembled s t b))) ≡ Ok (length (assembled s t b)) = rw d refl in
+        let z : Err w ≡ Ok (length (assembled s t b)) = sym e ∙ (given.outcome ∙ v) in
         let y : ◌≡◌ {A = ℕ} 0 1 = cc in
         absurd (omega arith))
 
-    module _ (n : ℕ) (e : r ≡ Accepted n) where
+    module _ (n : ℕ) (e : r ≡ Ok n) where
       -- what was put together
       stands : Whole (encode_translation (joined f g)) o' n
       stands = subst (λ (v : List ℕ). Whole v o' n) made (given_whole _ o o' r given n e)
@@ -168,12 +161,12 @@ module _ (f g : Translation) (hf : Held f) (hg : Held g) (fits : join_fits f g �
       finish_checked x ex = go (check_translation (take n o')) refl
         where
           go : (c : Outcome) → check_translation (take n o') ≡ c → Gives (translation_bytes (value (joined f g))) o o' x
-          go (Accepted m) k =
+          go (Ok m) k =
               let sound = checked_sound stands.short (ap check_translation (sym stands.bytes) ∙ k) in
-              let q : x ≡ r = ex ∙ (ap (checked_length (take n o')) k ∙ (ap Accepted (ap length stands.bytes ∙ sym stands.long) ∙ sym e)) in
+              let q : x ≡ r = ex ∙ (ap (checked_length (take n o')) k ∙ (ap Ok (ap length stands.bytes ∙ sym stands.long) ∙ sym e)) in
               rw q (assembled_given (joined f g) sound second_good.source_short first_good.target_short s t b o o' r es et eb given)
-          go (Refused w) k =
-              let q : x ≡ Refused ValueTooLarge = ex ∙ ap (checked_length (take n o')) k in
+          go (Err w) k =
+              let q : x ≡ Err ValueTooLarge = ex ∙ ap (checked_length (take n o')) k in
               rw q (gives_refused _ o o' ValueTooLarge (checked_exceeds stands.short (ap check_translation (sym stands.bytes) ∙ k)) given.long)
 
 -- The parts that are spelt, read.
@@ -258,8 +251,8 @@ module _ (s t b s' b' : List ℕ) (f g : Translation) (w : Fitted s t b s' b' f 
   }
 
   -- `join_fitting`: the body did not fit into 4,096 bytes
-  pub fitting_full : (d d' o : List ℕ) (r : Stored) → length d ≡ 4096 → Stores (joined_body f g) d d' 0 r → r ≡ Full
-      → Gives (translation_bytes (value (joined f g))) o o (Refused ValueTooLarge)
+  pub fitting_full : (d d' o : List ℕ) (r : Option ℕ) → length d ≡ 4096 → Stores (joined_body f g) d d' 0 r → r ≡ None
+      → Gives (translation_bytes (value (joined f g))) o o (Err ValueTooLarge)
   fitting_full d d' o r n h e = gives_refused _ o o ValueTooLarge (body_over (joined f g) (omega (arith, h.full e, n))) refl
 
 -- `join_parts`
@@ -273,7 +266,7 @@ module _ (s t x u v y : List ℕ) (f g : Translation) (p : EncodedParts s t x f)
       e f.body g.body (body_items s t x f p) (body_items u v y g q)
       ∙ rw (low_mappings f (spelt_good s t x f p).sound, low_mappings g (spelt_good u v y g q).sound) refl
 
-  pub parts_high : (b : Bool) → Tests b → b ≡ false → (o : List ℕ) → Gives (translation_bytes (translation_join f g)) o o (Refused NumberUnfit)
+  pub parts_high : (b : Bool) → Tests b → b ≡ false → (o : List ℕ) → Gives (translation_bytes (translation_join f g)) o o (Err NumberUnfit)
   unfolding translation_join
   parts_high b e h o =
       let z : (numbers_low f && numbers_low g) ≡ false = sym (low_is b e) ∙ h in
@@ -297,7 +290,7 @@ module _ (s t x u v y : List ℕ) (f g : Translation) (p : EncodedParts s t x f)
           ∙ (ap (lies_within (encode_language g.target)) p.source
           ∙ language_within g.target f.source (spelt_good u v y g q).sound.target.whole (spelt_good s t x f p).sound.source.whole))
 
-      pub parts_unfit : d ≡ false → (o : List ℕ) → Gives (translation_bytes (translation_join f g)) o o (Refused JoinUnfit)
+      pub parts_unfit : d ≡ false → (o : List ℕ) → Gives (translation_bytes (translation_join f g)) o o (Err JoinUnfit)
       unfolding translation_join
       parts_unfit h o =
           let z : join_fits f g ≡ false = sym fits_is ∙ h in

@@ -1,4 +1,5 @@
 -- Writing a field: what stands before a part, and what follows it.
+use Rattle.std.specs.Prelude.{None, Option, Some}
 use Prim.Native.Nat.{ℕ, zero, suc, ◌+◌, ◌/◌, ◌%◌, ◌<◌, ◌≤◌}
 use mathlib.Core.Path.{◌≡◌, refl, sym, ap, ◌∙◌}
 use mathlib.Core.List.{List, [], ◌∷◌, ◌++◌, append_assoc}
@@ -9,8 +10,6 @@ use borrow.Author.Tests.{eq-eqb, ne_eqb}
 use Rattle.run_table.specs.Inner.Stands.{Wrote}
 use Rattle.run_table.proofs.Standing.{wrote_long}
 use Rattle.format_fields.specs.Fields.{encode_field}
-use Rattle.format_fields.specs.declared.copy.Stored.{Stored}
-use Rattle.format_fields.specs.declared.copy.Stored.TheVariants.{To, Full}
 use Rattle.format_fields.specs.Inner.Writing.{spliced, Stores}
 use Rattle.format_fields.proofs.Splices.{stored_to, stored_full}
 use Rattle.format_translation.specs.Translation.{mapping, clause}
@@ -30,13 +29,13 @@ head_before o n k fits h v e =
 
 -- What the emitter put in.
 module _ (v o o' : List ℕ) (n m : ℕ) (w : Wrote v o o' n m) where
-  pub wrote_to : m ≤ length o' → Stores v o o' n (To m)
+  pub wrote_to : m ≤ length o' → Stores v o o' n (Some m)
   wrote_to h =
       let l = wrote_long v o o' n m w in
       let x = w.fits (omega arith) in
       stored_to v o o' n m x.0 (omega arith) x.1
 
-  pub wrote_over : length o' < m → Stores v o o' n Full
+  pub wrote_over : length o' < m → Stores v o o' n None
   wrote_over h =
       let l = wrote_long v o o' n m w in
       stored_full v o o' n (w.full (omega arith)).0
@@ -52,7 +51,7 @@ module _ (number : ℕ) where
   length_numbered h = rw (ne_eqb number 0 h)
 
 -- put_mapping
-module _ (s number t : ℕ) (o o' : List ℕ) (n : ℕ) (r : Stored) where
+module _ (s number t : ℕ) (o o' : List ℕ) (n : ℕ) (r : Option ℕ) where
   pub mapping_plain : number ≡ 0 → Stores (0x22 ∷ 0 ∷ 2 ∷ s ∷ t ∷ []) o o' n r → Stores (encode_field (item_field (mapping s number t))) o o' n r
   unfolding encode_field item_field
   mapping_plain h w = rw h w
@@ -66,7 +65,7 @@ module _ (s number t : ℕ) (o o' : List ℕ) (n : ℕ) (r : Stored) where
       go (suc x) h w = w
 
 -- put_head
-module _ (r p number size : ℕ) (o o' : List ℕ) (n : ℕ) (x : Stored) where
+module _ (r p number size : ℕ) (o o' : List ℕ) (n : ℕ) (x : Option ℕ) where
   pub head_plain : number ≡ 0 → Stores (0x23 ∷ size / 256 ∷ size % 256 ∷ r ∷ p ∷ []) o o' n x → Stores (clause_head r p number size) o o' n x
   unfolding clause_head
   head_plain h w = rw (eq-eqb number 0 h) w

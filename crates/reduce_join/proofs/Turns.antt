@@ -1,10 +1,11 @@
 -- The items of the second's body, joined one after the other: a law for each return and turn.
+use Rattle.std.specs.Prelude.{None, Option, Some}
 use Prim.Native.Nat.{ℕ, zero, suc, ◌+◌, ◌-◌, ◌*◌, ◌%◌, ◌<◌, ◌≤◌}
-use mathlib.Core.Path.{◌≡◌, refl, sym, ap, subst, ◌∙◌}
+use mathlib.Core.Path.{◌≡◌, refl, sym, ap, ◌∙◌}
 use mathlib.Core.Bool.{Bool, true, false, cond}
 use mathlib.Core.List.{List, [], ◌∷◌, ◌++◌, map, append_assoc}
 use mathlib.Core.Option
-use mathlib.Core.Option.{Option, some}
+use mathlib.Core.Option.{Option as Maybe, some}
 use native.Mathlib.Omega.{arith}
 use lib.ListN.{length, get_or, replicate, length-append}
 use lib.Dec.{eqb}
@@ -13,11 +14,9 @@ use Rattle.format_fields.specs.Lists.{all, is_some, keep, concat_map, count_up}
 use Rattle.format_fields.specs.Fields.{encode_field, encode_fields}
 use Rattle.format_fields.specs.Inner.Places.{field_end, is_whole, places_from, places, order_at}
 use Rattle.format_fields.specs.Inner.Writing.{spliced, Stores}
-use Rattle.format_fields.specs.declared.copy.Stored.{Stored}
-use Rattle.format_fields.specs.declared.copy.Stored.TheVariants.{To, Full}
 use Rattle.format_fields.proofs.Truth.{false_true, and_both, some_inj, is_some_lem}
 use Rattle.format_fields.proofs.Places.{places_done, places_next}
-use Rattle.format_fields.proofs.Splices.{both_full, both_then, length_spliced}
+use Rattle.format_fields.proofs.Splices.{length_spliced}
 use Rattle.format_language.specs.Inner.Entries.{size_at}
 use Rattle.tree_reader.specs.Inner.Positions.{kind_before, mapped_in}
 use Rattle.tree_reader.specs.Code as Terms
@@ -66,7 +65,7 @@ module _ (t b : List ℕ) (p e kind i j x : ℕ) (ex : x ≡ head_length i) (f g
   pub run_asks : TermAsks Code t (between b (p + x) e) (replicate 2 0) 16 kind j f a.given (clauses_of g (get_or b (p + 3) 0) (get_or b (p + 4) 0) i)
   run_asks = rw ex a.asks
 
-  pub run_stores : (o o' : List ℕ) (n : ℕ) (r : Stored)
+  pub run_stores : (o o' : List ℕ) (n : ℕ) (r : Option ℕ)
       → ((h : Translation) (given : Uses) (u : Terms.Code) → TermAsks Code t (between b (p + x) e) (replicate 2 0) 16 kind j h given u → Stores (write code (transform h j u)) o o' n r)
       → Stores (write code (transform f j (clauses_of g (get_or b (p + 3) 0) (get_or b (p + 4) 0) i))) o o' n r
   run_stores o o' n r h = h f a.given _ run_asks
@@ -98,18 +97,18 @@ module _ (t b : List ℕ) (p e kind i j : ℕ) (f g : Translation) (a : ClauseAs
       omega (arith, ap length (field_is size s), length-append (clause_head (get_or b (p + 3) 0) (get_or b (p + 4) 0) number size) joined_code, head_length_lem (get_or b (p + 3) 0) (get_or b (p + 4) 0) number size, el)
 
   module _ (o : List ℕ) (n : ℕ) where
-    pub clause_short : length o < n + hl → Stores (paired_field f g b p j) o o n Full
+    pub clause_short : length o < n + hl → Stores (paired_field f g b p j) o o n None
     clause_short h = stored_full _ o o n (omega (arith, field_long))
 
-    module _ (o' : List ℕ) (x : Stored) (w : Stores joined_code o o' (n + hl) x) where
-      pub clause_full : x ≡ Full → Stores (paired_field f g b p j) o o' n Full
+    module _ (o' : List ℕ) (x : Option ℕ) (w : Stores joined_code o o' (n + hl) x) where
+      pub clause_full : x ≡ None → Stores (paired_field f g b p j) o o' n None
       clause_full h = stored_full _ o o' n (omega (arith, w.full h, field_long))
 
-      pub clause_in : (m : ℕ) → x ≡ To m → (n + hl ≤ m) × (m ≤ length o) × (5 ≤ hl)
+      pub clause_in : (m : ℕ) → x ≡ Some m → (n + hl ≤ m) × (m ≤ length o) × (5 ≤ hl)
       clause_in m h = (omega (arith, (w.done m h).end), (w.done m h).fits, hl_five)
 
-      pub clause_to : n + hl ≤ length o → (m : ℕ) → x ≡ To m → (o'' : List ℕ) (y : Stored) (r k size : ℕ) → r ≡ get_or b (p + 3) 0 → k ≡ get_or b (p + 4) 0 → size ≡ m - n - 3
-          → Stores (clause_head r k number size) o' o'' n y → Stores (paired_field f g b p j) o o'' n (To m)
+      pub clause_to : n + hl ≤ length o → (m : ℕ) → x ≡ Some m → (o'' : List ℕ) (y : Option ℕ) (r k size : ℕ) → r ≡ get_or b (p + 3) 0 → k ≡ get_or b (p + 4) 0 → size ≡ m - n - 3
+          → Stores (clause_head r k number size) o' o'' n y → Stores (paired_field f g b p j) o o'' n (Some m)
       clause_to room m h o'' y r k size er ek es v =
           let d = w.done m h in
           let five = hl_five in
@@ -187,11 +186,11 @@ module _ (b u : List ℕ) (p e i : ℕ) (g : Translation) (a : ReachAsks b u p e
     clause_reaches (plain_mapping m) = false_true (sym (ec ∙ ap is_clause_tag (et ∙ m.tag)) ∙ h)
     clause_reaches (plain_clause m) =
         let z : i ≡ 0 = a.number ∙ ap number_of (clause_is b p m) in
-        ap (reached g) (clause_is b p m) ∙ ap (λ (o : Option ℕ). Option.get_or o 0) (ap (mapping_of g.body (get_or b (p + 3) 0)) (sym z) ∙ goes.1)
+        ap (reached g) (clause_is b p m) ∙ ap (λ (o : Maybe ℕ). Option.get_or o 0) (ap (mapping_of g.body (get_or b (p + 3) 0)) (sym z) ∙ goes.1)
     clause_reaches (numbered_mapping_lem m) = false_true (sym (ec ∙ ap is_clause_tag (et ∙ m.tag)) ∙ h)
     clause_reaches (numbered_clause_lem m) =
         let z : i ≡ get_or b (p + 5) 0 = a.number ∙ ap number_of (numbered_clause_is b p m) in
-        ap (reached g) (numbered_clause_is b p m) ∙ ap (λ (o : Option ℕ). Option.get_or o 0) (ap (mapping_of g.body (get_or b (p + 3) 0)) (sym z) ∙ goes.1)
+        ap (reached g) (numbered_clause_is b p m) ∙ ap (λ (o : Maybe ℕ). Option.get_or o 0) (ap (mapping_of g.body (get_or b (p + 3) 0)) (sym z) ∙ goes.1)
 
     pub reach_clause : x - 1 ≡ reached g (item_at b p)
     reach_clause = let q = target_is in let y : x - 1 ≡ goes.0 = omega arith in y ∙ sym (clause_reaches (item_facts b p a.whole))
@@ -221,7 +220,7 @@ module _ (t u b : List ℕ) (p e kind i j : ℕ) (f g : Translation) (a : Number
   unfolding number_field
   field_of x h = ap (λ (k : ℕ). cond (is_some (mapping_of f.body k j)) (paired_field f g b p j) []) (sym a.reaches) ∙ ap (λ (y : Bool). cond y (paired_field f g b p j) []) h
 
-  pub number_none : to ≡ 0 → (o : List ℕ) (n : ℕ) → n ≤ length o → Stores (number_field f g b p j) o o n (To n)
+  pub number_none : to ≡ 0 → (o : List ℕ) (n : ℕ) → n ≤ length o → Stores (number_field f g b p j) o o n (Some n)
   number_none h o n l =
       let q : is_some (mapping_of f.body kind j) ≡ false = ap is_some (sym maps) ∙ ap (λ (x : ℕ). is_some (kind_before x)) h in
       rw (field_of false q) (stored_nothing o n l)
@@ -236,18 +235,18 @@ module _ (t u b : List ℕ) (p e kind i j : ℕ) (f g : Translation) (a : Number
     pub number_code : (c : Bool) → c ≡ is_clause_tag (get_or b p 0) → c ≡ true → ClauseAsks t b p e kind i j f g
     number_code c ec hc = a.code (sym ec ∙ hc) has
 
-    pub number_there : (o o' : List ℕ) (n : ℕ) (r : Stored) → Stores (paired_field f g b p j) o o' n r → Stores (number_field f g b p j) o o' n r
+    pub number_there : (o o' : List ℕ) (n : ℕ) (r : Option ℕ) → Stores (paired_field f g b p j) o o' n r → Stores (number_field f g b p j) o o' n r
     number_there o o' n r w = rw (field_of true has) w
 
     pub number_mapping : (c : Bool) → c ≡ is_clause_tag (get_or b p 0) → c ≡ false → (s l : ℕ) → s ≡ get_or b (p + 3) 0 → l ≡ j
-        → (o o' : List ℕ) (n : ℕ) (r : Stored) → Stores (encode_field (item_field (mapping s (16 * i + l) (to - 1)))) o o' n r → Stores (number_field f g b p j) o o' n r
+        → (o o' : List ℕ) (n : ℕ) (r : Option ℕ) → Stores (encode_field (item_field (mapping s (16 * i + l) (to - 1)))) o o' n r → Stores (number_field f g b p j) o o' n r
     unfolding paired_field number_of mapped
     number_mapping c ec hc s l es el o o' n r w =
         let m = mapping_at b p a.whole (sym ec ∙ hc) (item_facts b p a.whole) in
         let rs : get_or b (p + 3) 0 ≡ s = sym es in
         let y : m.number ≡ i = sym (a.number ∙ ap number_of m.item) in
         let k : m.target ≡ kind = sym (a.reaches ∙ ap (reached g) m.item) in
-        let q : mapped f.body m.target j ≡ to - 1 = ap (λ (x : ℕ). mapped f.body x j) k ∙ ap (λ (x : Option ℕ). Option.get_or x 0) goes_to in
+        let q : mapped f.body m.target j ≡ to - 1 = ap (λ (x : ℕ). mapped f.body x j) k ∙ ap (λ (x : Maybe ℕ). Option.get_or x 0) goes_to in
         let d : j ≡ l = sym el in
         let v : paired_field f g b p j ≡ encode_field (item_field (mapping s (16 * i + l) (to - 1)))
         = ap (λ (x : Item). encode_field (item_field (paired_item f g x j))) m.item
@@ -294,26 +293,6 @@ module _ (f g : Translation) (b : List ℕ) (p limit j : ℕ) where
   pub fields_end : limit ≤ j → fields_from f g b p limit j ≡ []
   unfolding count_up concat_map
   fields_end h = let y : limit - j ≡ 0 = omega arith in ap (λ (x : ℕ). concat_map (number_field f g b p) (count_up x j)) y
-
--- A walk that writes a result in parts: what is left of it is written from n on, and the result from the start.
-pub record Writing (result left o out : List ℕ) (from n : ℕ) : Type 0 where
-  pub rest : (out' : List ℕ) (x : Stored) → Stores left out out' n x → Stores result o out' from x
-
-pub writing_start : (result left o : List ℕ) (from : ℕ) → result ≡ left → Writing result left o o from from
-writing_start result left o from e = record { rest = λ out' x w. subst (λ (v : List ℕ). Stores v o out' from x) (sym e) w }
-
-module _ (result left o out : List ℕ) (from n : ℕ) (h : Writing result left o out from n) where
-  module _ (v more : List ℕ) (e : left ≡ v ++ more) (out' : List ℕ) (x : Stored) (w : Stores v out out' n x) where
-    pub writing_full : x ≡ Full → Stores result o out' from Full
-    writing_full q = h.rest out' Full (subst (λ (y : List ℕ). Stores y out out' n Full) (sym e) (both_full v more out out' n x w q))
-
-    pub writing_next : (m : ℕ) → x ≡ To m → length out' ≡ length out → Writing result more o out' from m
-    writing_next m d l = record {
-      rest = λ out'' y k. h.rest out'' y (subst (λ (r : List ℕ). Stores r out out'' n y) (sym e) (both_then v more out out' n x w m d out'' y l k));
-    }
-
-  pub writing_done : left ≡ [] → n ≤ length out → Stores result o out from (To n)
-  writing_done e l = h.rest out (To n) (subst (λ (v : List ℕ). Stores v out out n (To n)) (sym e) (stored_nothing out n l))
 
 -- join_items: the body of the join, place by place
 joined_places : (f g : Translation) (b l : List ℕ) → encode_fields (map item_field (concat_map (join_item f g) (map (item_at b) l))) ≡ concat_map (joined_field f g b) l

@@ -14,8 +14,8 @@ ghost use Rattle.run_emit.specs.Inner.Runs.{TermAsks};
 ghost use Rattle.reduce_operators.specs.Inner.Paired.{reached};
 ghost use Rattle.reduce_join.specs.Inner.Joining.{Joining, Reached, head_length, clause_head, ClauseAsks, NumberAsks, ReachAsks, paired_field, number_field, joined_field, joined_body};
 
-use format_fields::bytes::{byte_at, to_usize};
-use format_fields::copy::{Stored, put};
+use format_fields::bytes::byte_at;
+use format_fields::copy::put;
 use format_fields::walk::{MAPPING, NAMES, NUMBERED, field_end, order_at, whole_end};
 use format_translation::body::{CLAUSE, NUMBERED_CLAUSE, is_clause};
 use format_translation::clause::{CLAUSE_HEAD, NUMBERED_HEAD};
@@ -38,7 +38,7 @@ fn head_length(number: usize) -> usize
 }
 
 // The field of a mapping, into the output from n on.
-fn put_mapping(source: u8, number: usize, target: u8, out: &mut [u8], n: usize) -> Stored
+fn put_mapping(source: u8, number: usize, target: u8, out: &mut [u8], n: usize) -> Option<usize>
     requires { (number < 256) × (n ≤ length out.old) }
     ensures { Stores (encode_field (item_field (mapping source number target))) out.old out.new n result }
 {
@@ -51,7 +51,14 @@ fn put_mapping(source: u8, number: usize, target: u8, out: &mut [u8], n: usize) 
 }
 
 // What stands before the code in the field of a clause with contents of this size, into the output from n on.
-fn put_head(res: u8, name: u8, number: usize, size: usize, out: &mut [u8], n: usize) -> Stored
+fn put_head(
+    res: u8,
+    name: u8,
+    number: usize,
+    size: usize,
+    out: &mut [u8],
+    n: usize,
+) -> Option<usize>
     requires { (number < 256) × (size < 65536) × (n ≤ length out.old) }
     ensures { Stores (clause_head res name number size) out.old out.new n result }
 {
@@ -73,7 +80,7 @@ fn put_run(
     number: u8,
     out: &mut [u8],
     n: usize,
-) -> Stored
+) -> Option<usize>
     requires { (n ≤ length out.old) × ((f : Translation) × (given : Uses) × (u : Terms.Code) × TermAsks Code table.now input.now (replicate 2 0) 16 kind number f given u) }
     ensures { (f : Translation) (given : Uses) (u : Terms.Code) → TermAsks Code table.now input.now (replicate 2 0) 16 kind number f given u
         → Stores (write code (transform f number u)) out.old out.new n result }
@@ -90,10 +97,7 @@ fn put_run(
         out,
         n,
     );
-    if out.len() < m {
-        return Stored::Full;
-    }
-    Stored::To(m)
+    if m <= out.len() { Some(m) } else { None }
 }
 
 // The clause of number i at p of the second's body, which ends at e, joined by number j of the first: its code is put in first,
@@ -108,24 +112,22 @@ fn join_clause(
     j: u8,
     out: &mut [u8],
     n: usize,
-) -> Stored
+) -> Option<usize>
     requires { (n ≤ length out.old) × (length out.old ≤ 4096) × ((f g : Translation) × ClauseAsks table.now second_body.now p e kind i j f g) }
     ensures { (f g : Translation) → ClauseAsks table.now second_body.now p e kind i j f g
         → Stores (paired_field f g second_body.now p j) out.old out.new n result }
 {
-    let number = LOW_NUMBERS * i + to_usize(j);
+    let number = LOW_NUMBERS * i + usize::from(j);
     let start = n + head_length(number);
     if out.len() < start {
-        return Stored::Full;
+        return None;
     }
     let input = &second_body[p + head_length(i)..e];
-    let Stored::To(m) = put_run(table, input, kind, j, out, start) else {
-        return Stored::Full;
-    };
+    let m = put_run(table, input, kind, j, out, start)?;
     let result = byte_at(second_body, p + 3);
     let name = byte_at(second_body, p + 4);
     put_head(result, name, number, m - n - 3, out, n);
-    Stored::To(m)
+    Some(m)
 }
 
 // The item of number i at p of the second's body, which ends at e and reaches a kind, joined by number j of the first, where
@@ -141,20 +143,20 @@ fn join_number(
     j: u8,
     out: &mut [u8],
     n: usize,
-) -> Stored
+) -> Option<usize>
     requires { (n ≤ length out.old) × (length out.old ≤ 4096) × (p < length second_body.now) × ((f g : Translation) × NumberAsks table.now first_uses.now second_body.now p e kind i j f g) }
     ensures { (f g : Translation) → NumberAsks table.now first_uses.now second_body.now p e kind i j f g
         → Stores (number_field f g second_body.now p j) out.old out.new n result }
 {
-    let to = byte_at(first_uses, NAMES * to_usize(kind) + to_usize(j));
+    let to = byte_at(first_uses, NAMES * usize::from(kind) + usize::from(j));
     if to == 0 {
-        return Stored::To(n);
+        return Some(n);
     }
     if is_clause(byte_at(second_body, p)) {
         return join_clause(table, second_body, p, e, kind, i, j, out, n);
     }
     let source = byte_at(second_body, p + 3);
-    put_mapping(source, LOW_NUMBERS * i + to_usize(j), to - 1, out, n)
+    put_mapping(source, LOW_NUMBERS * i + usize::from(j), to - 1, out, n)
 }
 
 // The kind of the first's source that the item of number i at p of the second's body, which ends at e, reaches: where a mapping
@@ -164,7 +166,7 @@ fn kind_reached(second_body: &[u8], second_uses: &[u8], p: usize, e: usize, i: u
     ensures { (result < 32) × ((g : Translation) → ReachAsks second_body.now second_uses.now p e i g → result ≡ reached g (item_at second_body.now p)) }
 {
     if is_clause(byte_at(second_body, p)) {
-        let result = to_usize(byte_at(second_body, p + 3));
+        let result = usize::from(byte_at(second_body, p + 3));
         return byte_at(second_uses, NAMES * result + i) - 1;
     }
     byte_at(second_body, e - 1)
@@ -180,7 +182,7 @@ fn join_item(
     p: usize,
     out: &mut [u8],
     n: usize,
-) -> Stored
+) -> Option<usize>
     requires { (item_whole second_body.now p ≡ true) × Reached second_body.now p × (p < length second_body.now) × (n ≤ length out.old) × (length out.old ≤ 4096) × ((f g : Translation) × Joining table.now first_uses.now second_body.now second_uses.now limit f g) }
     ensures { (f g : Translation) → Joining table.now first_uses.now second_body.now second_uses.now limit f g
         → Stores (joined_field f g second_body.now p) out.old out.new n result }
@@ -189,16 +191,10 @@ fn join_item(
     let i = order_at(second_body, p, MAPPING) % NAMES;
     let kind = kind_reached(second_body, second_uses, p, e, i);
     let mut at = n;
-    let mut j = 0u8;
-    while j < limit {
-        let Stored::To(m) = join_number(table, first_uses, second_body, p, e, kind, i, j, out, at)
-        else {
-            return Stored::Full;
-        };
-        at = m;
-        j += 1;
+    for j in 0..limit {
+        at = join_number(table, first_uses, second_body, p, e, kind, i, j, out, at)?;
     }
-    Stored::To(at)
+    Some(at)
 }
 
 // The body of the join of the first translation, whose numbers are below the limit, after the second.
@@ -209,7 +205,7 @@ pub fn join_items(
     second_body: &[u8],
     second_uses: &[u8],
     out: &mut [u8],
-) -> Stored
+) -> Option<usize>
     requires { (length out.old ≤ 4096) × ((f g : Translation) × Joining table.now first_uses.now second_body.now second_uses.now limit f g) }
     ensures { (f g : Translation) → Joining table.now first_uses.now second_body.now second_uses.now limit f g
         → Stores (joined_body f g) out.old out.new 0 result }
@@ -217,7 +213,7 @@ pub fn join_items(
     let mut n = 0;
     let mut p = 0;
     while p < second_body.len() {
-        let Stored::To(m) = join_item(
+        n = join_item(
             table,
             first_uses,
             limit,
@@ -226,11 +222,8 @@ pub fn join_items(
             p,
             out,
             n,
-        ) else {
-            return Stored::Full;
-        };
-        n = m;
+        )?;
         p = field_end(second_body, p);
     }
-    Stored::To(n)
+    Some(n)
 }

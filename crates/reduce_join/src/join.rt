@@ -1,5 +1,5 @@
 // The join of two translations.
-ghost use Rattle.std.specs.Prelude.{◌≡◌, true, ◌&&◌, List, ℕ, ◌≤◌, length};
+ghost use Rattle.std.specs.Prelude.{◌≡◌, true, ◌&&◌, ◌≤◌, length};
 ghost use Rattle.std.proofs.Math.Option.{some};
 ghost use Rattle.format_fields.specs.Lists.{all};
 ghost use Rattle.outcome.specs.Outcome.{value};
@@ -11,18 +11,18 @@ ghost use Rattle.reduce_operators.specs.Operators.{numbers_low, join_fits, joine
 ghost use Rattle.format_fields.specs.Inner.Writing.{Stores};
 ghost use Rattle.reduce_operators.specs.Inner.Values.{exact_translation, Gives, translation_bytes};
 ghost use Rattle.reduce_operators.specs.Inner.Numbers.{mapping_below};
-ghost use Rattle.reduce_operators.specs.Inner.EncodedParts.{EncodedParts};
-ghost use Rattle.reduce_join.specs.Inner.Joining.{Held, Fitted, joined_body, checked_length};
+ghost use Rattle.reduce_operators.specs.Inner.EncodedParts.{HasParts};
+ghost use Rattle.reduce_join.specs.Inner.Joining.{Held, FittedParts, joined_body, checked_length};
 
 use super::body::{LOW_NUMBERS, join_items};
 use check_operations::translations::check_translation;
-use format_fields::copy::Stored;
 use format_translation::index::put_uses;
-use format_translation::parts::{TRANSLATION_LIMIT, body_of, source_of, target_of};
+use format_translation::parts::TRANSLATION_LIMIT;
 use outcome::{Outcome, Reason};
 use reduce_merge::within::lies_within;
 use reduce_operators::assemble::assemble;
 use reduce_operators::numbers::{ZERO_ONLY, numbers_below};
+use reduce_operators::parts::{Parts, parts_of};
 use run_table::prepare::{begin, prepare};
 use tree_reader::index::TABLE;
 use tree_reader::node::USES;
@@ -39,10 +39,7 @@ fn numbers_low(first_body: &[u8], second_body: &[u8]) -> bool
     ensures { (b c : Body) → body_of first_body.now ≡ some b → body_of second_body.now ≡ some c
         → result ≡ (all (mapping_below 16) b && all (mapping_below 16) c) }
 {
-    if !numbers_below(first_body, LOW_NUMBERS) {
-        return false;
-    }
-    numbers_below(second_body, LOW_NUMBERS)
+    numbers_below(first_body, LOW_NUMBERS) && numbers_below(second_body, LOW_NUMBERS)
 }
 
 // A limit that is above all numbers of a body whose numbers are low: 1 where it has number 0 only.
@@ -56,115 +53,77 @@ fn number_limit(body: &[u8]) -> u8
     LOW_LIMIT
 }
 
-// The body of the join of two translations that fit, by the source, target and body of the first and the body of the
-// second: through the table of the first's run, and tables of what the kinds of both map to by number.
-fn join_body(
-    first_source: &[u8],
-    first_target: &[u8],
-    first_body: &[u8],
-    second_body: &[u8],
-    out: &mut [u8],
-) -> Stored
-    requires { (length out.old ≤ 4096) × ((f g : Translation) × (u : List ℕ) × Fitted first_source.now first_target.now first_body.now u second_body.now f g) }
-    ensures { (f g : Translation) (u : List ℕ) → Fitted first_source.now first_target.now first_body.now u second_body.now f g
-        → Stores (joined_body f g) out.old out.new 0 result }
+// The body of the join of two translations that fit, by the parts of the first and the body of the second: through the table of
+// the first's run, and tables of what the kinds of both map to by number.
+fn join_body(first: Parts<'_>, second: Parts<'_>, out: &mut [u8]) -> Option<usize>
+    requires { (length out.old ≤ 4096) × ((f g : Translation) × FittedParts first second f g) }
+    ensures { (f g : Translation) → FittedParts first.entry second.entry f g → Stores (joined_body f g) out.old out.new 0 result }
 {
     let mut table = [0u16; TABLE];
-    begin(first_source, first_target, &mut table);
+    begin(first.source, first.target, &mut table);
     let mut first_uses = [0u8; USES];
-    put_uses(first_body, &mut first_uses);
+    put_uses(first.body, &mut first_uses);
     prepare(
-        first_source,
-        first_target,
-        first_body,
+        first.source,
+        first.target,
+        first.body,
         &first_uses,
         &mut table,
     );
     let mut second_uses = [0u8; USES];
-    put_uses(second_body, &mut second_uses);
-    let limit = number_limit(first_body);
-    join_items(&table, &first_uses, limit, second_body, &second_uses, out)
+    put_uses(second.body, &mut second_uses);
+    let limit = number_limit(first.body);
+    join_items(&table, &first_uses, limit, second.body, &second_uses, out)
 }
 
 // The length of a joined value, or 11 where the check refuses it: a code of it goes too deep.
 fn checked_length(value: &[u8]) -> Outcome
     ensures { result ≡ checked_length value.now (check_translation value.now) }
 {
-    let answer = check_translation(value);
-    let outcome = answer.outcome;
-    match outcome {
-        Outcome::Accepted(_) => Outcome::Accepted(value.len()),
-        Outcome::Refused(_) => Outcome::Refused(Reason::ValueTooLarge),
+    match check_translation(value).outcome {
+        Ok(_) => Ok(value.len()),
+        Err(_) => Err(Reason::ValueTooLarge),
     }
 }
 
 // The joined value put together: 11 where it exceeds a limit.
-fn finish(source: &[u8], target: &[u8], body: &[u8], out: &mut [u8]) -> Outcome
-    requires { (length source.now ≤ 1024) × (length target.now ≤ 1024) × (4096 ≤ length out.old) }
-    ensures { (f g : Translation) → Held f → Held g → join_fits f g ≡ true → numbers_low f ≡ true → numbers_low g ≡ true → source.now ≡ encode_language g.source → target.now ≡ encode_language f.target
-        → body.now ≡ joined_body f g → Gives (translation_bytes (value (joined f g))) out.old out.new result }
+fn finish(parts: Parts<'_>, out: &mut [u8]) -> Outcome
+    requires { (length parts.source.now ≤ 1024) × (length parts.target.now ≤ 1024) × (4096 ≤ length out.old) }
+    ensures { (f g : Translation) → Held f → Held g → join_fits f g ≡ true → numbers_low f ≡ true → numbers_low g ≡ true → parts.entry.source.now ≡ encode_language g.source → parts.entry.target.now ≡ encode_language f.target
+        → parts.entry.body.now ≡ joined_body f g → Gives (translation_bytes (value (joined f g))) out.old out.new result }
 {
-    match assemble(source, target, body, out) {
-        Outcome::Accepted(n) => checked_length(&out[..n]),
-        Outcome::Refused(reason) => Outcome::Refused(reason),
-    }
+    let n = assemble(parts, out)?;
+    checked_length(&out[..n])
 }
 
 // The join of two translations that fit: 11 where it exceeds a limit.
-fn join_fitting(
-    first_source: &[u8],
-    first_target: &[u8],
-    first_body: &[u8],
-    second_source: &[u8],
-    second_body: &[u8],
-    out: &mut [u8],
-) -> Outcome
-    requires { (4096 ≤ length out.old) × ((f g : Translation) × Fitted first_source.now first_target.now first_body.now second_source.now second_body.now f g) }
-    ensures { (f g : Translation) → Fitted first_source.now first_target.now first_body.now second_source.now second_body.now f g
-        → Gives (translation_bytes (value (joined f g))) out.old out.new result }
+fn join_fitting(first: Parts<'_>, second: Parts<'_>, out: &mut [u8]) -> Outcome
+    requires { (4096 ≤ length out.old) × ((f g : Translation) × FittedParts first second f g) }
+    ensures { (f g : Translation) → FittedParts first.entry second.entry f g → Gives (translation_bytes (value (joined f g))) out.old out.new result }
 {
     let mut body = [0u8; TRANSLATION_LIMIT];
-    let Stored::To(n) = join_body(
-        first_source,
-        first_target,
-        first_body,
-        second_body,
-        &mut body,
-    ) else {
-        return Outcome::Refused(Reason::ValueTooLarge);
+    let n = join_body(first, second, &mut body).ok_or(Reason::ValueTooLarge)?;
+    let parts = Parts {
+        source: second.source,
+        target: first.target,
+        body: &body[..n],
     };
-    finish(second_source, first_target, &body[..n], out)
+    finish(parts, out)
 }
 
 // The join of the parts of two translations: 26 where one has a number above 15, 13 where the second's target does not lie
 // within the first's source.
-fn join_parts(
-    first_source: &[u8],
-    first_target: &[u8],
-    first_body: &[u8],
-    second_source: &[u8],
-    second_target: &[u8],
-    second_body: &[u8],
-    out: &mut [u8],
-) -> Outcome
-    requires { ((f : Translation) × EncodedParts first_source.now first_target.now first_body.now f) × ((g : Translation) × EncodedParts second_source.now second_target.now second_body.now g) × (4096 ≤ length out.old) }
-    ensures { (f g : Translation) → EncodedParts first_source.now first_target.now first_body.now f → EncodedParts second_source.now second_target.now second_body.now g
-        → Gives (translation_bytes (translation_join f g)) out.old out.new result }
+fn join_parts(first: Parts<'_>, second: Parts<'_>, out: &mut [u8]) -> Outcome
+    requires { ((f : Translation) × HasParts first f) × ((g : Translation) × HasParts second g) × (4096 ≤ length out.old) }
+    ensures { (f g : Translation) → HasParts first.entry f → HasParts second.entry g → Gives (translation_bytes (translation_join f g)) out.old out.new result }
 {
-    if !numbers_low(first_body, second_body) {
-        return Outcome::Refused(Reason::NumberUnfit);
+    if !numbers_low(first.body, second.body) {
+        return Err(Reason::NumberUnfit);
     }
-    if !lies_within(second_target, first_source) {
-        return Outcome::Refused(Reason::JoinUnfit);
+    if !lies_within(second.target, first.source) {
+        return Err(Reason::JoinUnfit);
     }
-    join_fitting(
-        first_source,
-        first_target,
-        first_body,
-        second_source,
-        second_body,
-        out,
-    )
+    join_fitting(first, second, out)
 }
 
 // The join of a after b: b runs first. 26 where a number is above 15, 13 where it does not fit, 11 where its value exceeds a limit.
@@ -173,13 +132,5 @@ pub fn join(a: &[u8], b: &[u8], out: &mut [u8]) -> Outcome
     ensures { (f g : Translation) → exact_translation a.now ≡ value f → exact_translation b.now ≡ value g
         → Gives (translation_bytes (translation_join f g)) out.old out.new result }
 {
-    join_parts(
-        source_of(a),
-        target_of(a),
-        body_of(a),
-        source_of(b),
-        target_of(b),
-        body_of(b),
-        out,
-    )
+    join_parts(parts_of(a), parts_of(b), out)
 }

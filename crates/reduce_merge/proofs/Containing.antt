@@ -1,14 +1,14 @@
 -- Whether one language lies within another: a law for each return and turn of `lies_at` and `lies_within`.
 use Prim.Native.Nat.{ℕ, ◌+◌, ◌<◌, ◌≤◌}
 use mathlib.Core.Path.{◌≡◌, refl, sym, ap, ◌∙◌}
-use mathlib.Core.Bool.{Bool, true, false, ◌&&◌}
+use mathlib.Core.Bool.{Bool, true, false, cond, ◌&&◌}
 use mathlib.Core.Logic.{◌⊎◌, ⊎_elim}
 use mathlib.Core.List.{List, [], ◌∷◌}
 use native.Mathlib.Omega.{arith}
 use lib.ListN.{length, take, get_or}
 use lib.Seq.{get_or-take, get_or-drop}
 use lib.Dec.{ltb, eqb}
-use borrow.Author.Tests.{lt-ltb, le-ltb, ltb-true, ltb-false, lt-leb, eq-eqb, ne_eqb, eqb-true}
+use borrow.Author.Tests.{lt-ltb, le-ltb, ltb-true, ltb-false, lt-leb, eqb-true}
 use Rattle.format_fields.specs.Lists.{all, same_numbers}
 use Rattle.format_fields.specs.Keyed.{within}
 use Rattle.format_fields.specs.Fields.{pair_at}
@@ -18,8 +18,8 @@ use Rattle.format_fields.proofs.Lists.{all_true}
 use Rattle.format_language.specs.Language.{range_within}
 use Rattle.format_language.specs.Inner.Entries.{size_at, step_at, class_range, entry_whole, IsClass}
 use Rattle.format_language.proofs.Facts.{entry_facts}
-use Rattle.reduce_merge.specs.Inner.Parts.{Part, part_within, class_part, piece_at, part_at, parts_from, WholeAt, WholeFrom, seek, SoughtAt, leads, lies_within}
-use Rattle.reduce_merge.proofs.Walks.{parts_done, parts_next, whole_here, seek_skip, seek_stop}
+use Rattle.reduce_merge.specs.Inner.Parts.{Part, same_key, part_within, class_part, piece_at, part_at, parts_from, WholeAt, WholeFrom, seek, SoughtAt, leads, lies_within}
+use Rattle.reduce_merge.proofs.Walks.{parts_done, parts_next, whole_here, keyed_not, met_there, met_keys, met_more, seek_skip, seek_stop}
 use Rattle.reduce_merge.proofs.Turns.{Rest, rest_next, rest_sought, within_turned}
 
 -- A field in a file and its own bytes.
@@ -86,34 +86,47 @@ module _ (s : List ℕ) (p : ℕ) (w : WholeAt s p) where
       absurd (omega arith))
       (entry_facts (piece_at s p) 0 e)
 
--- The classes that `lies_at` compares.
-pub classes_here : (a : List ℕ) (p : ℕ) (b : List ℕ) (q : ℕ) → q < length b → (j k : ℕ) → j ≡ order_at 0x11 a p → k ≡ order_at 0x11 b q → j ≡ k → j < 32
-    → WholeAt a p → WholeFrom b q → class_part (part_at 0x11 a p) ≡ true → all class_part (parts_from 0x11 b q) ≡ true → IsClass a p × IsClass b q
-classes_here a p b q there j k ej ek d h wa wb la lb =
-    let l = (all_true class_part (part_at 0x11 b q) (parts_from 0x11 b (field_end b q)) (rw (parts_next 0x11 b q there) at lb)).0 in
-    let wq = whole_here b q wb there in
-    (class_there a p wa (class_piece a p wa la (omega arith)), class_there b q wq (class_piece b q wq l (omega arith)))
+-- `lies_at`: the entries at p and q
+module _ (a : List ℕ) (p : ℕ) (b : List ℕ) (q : ℕ) where
+  abbrev more : Part → Part → Bool
+  more x y = cond (ltb x.key 32) (range_within (class_range x.bytes 0) (class_range y.bytes 0)) (same_numbers x.bytes y.bytes)
 
--- `lies_at`: j and k are the keys of the entries at p and q
-module _ (a : List ℕ) (p : ℕ) (b : List ℕ) (q : ℕ) (there : q < length b) (j k : ℕ) (ej : j ≡ order_at 0x11 a p) (ek : k ≡ order_at 0x11 b q) where
-  pub lies_other : (j ≡ k → ⊥) → false ≡ leads part_within (part_at 0x11 a p) (parts_from 0x11 b q)
-  unfolding part_within part_at
-  lies_other d = rw (parts_next 0x11 b q there) (cc (ne_eqb j k d))
+  pub no_lie : false ≡ leads same_key (part_at 0x11 a p) (parts_from 0x11 b q) → false ≡ leads part_within (part_at 0x11 a p) (parts_from 0x11 b q)
+  unfolding part_within
+  no_lie h = sym (keyed_not more _ _ (sym h))
 
-  pub lies_range : j ≡ k → j < 32 → WholeAt a p → WholeFrom b q → class_part (part_at 0x11 a p) ≡ true → all class_part (parts_from 0x11 b q) ≡ true
-      → (x : Bool) → x ≡ range_within (class_range a p) (class_range b q) → x ≡ leads part_within (part_at 0x11 a p) (parts_from 0x11 b q)
-  unfolding part_within part_at
-  lies_range d h wa wb la lb x ex =
-      let l : class_part (part_at 0x11 b q) ≡ true = (all_true class_part (part_at 0x11 b q) (parts_from 0x11 b (field_end b q)) (rw (parts_next 0x11 b q there) at lb)).0 in
-      let i : order_at 0x11 b q < 32 = omega arith in
-      let wq = whole_here b q wb there in
-      let u : class_range (piece_at a p) 0 ≡ class_range a p = range_there a p wa (class_piece a p wa la (omega arith)) in
-      let v : class_range (piece_at b q) 0 ≡ class_range b q = range_there b q wq (class_piece b q wq l i) in
-      rw (parts_next 0x11 b q there) (cc (eq-eqb j k d, lt-ltb j 32 h))
+  -- they have one key, which is j
+  module _ (met : true ≡ leads same_key (part_at 0x11 a p) (parts_from 0x11 b q)) (j : ℕ) (ej : j ≡ order_at 0x11 a p) where
+    met_lies : more (part_at 0x11 a p) (part_at 0x11 b q) ≡ leads part_within (part_at 0x11 a p) (parts_from 0x11 b q)
+    unfolding part_within
+    met_lies = met_more 0x11 a p b q met more
 
-  pub lies_same : j ≡ k → 32 ≤ j → (x : Bool) → x ≡ same_numbers (piece_at a p) (piece_at b q) → x ≡ leads part_within (part_at 0x11 a p) (parts_from 0x11 b q)
-  unfolding part_within part_at
-  lies_same d h x ex = rw (parts_next 0x11 b q there) (cc (eq-eqb j k d, le-ltb j 32 h))
+    pub lies_same : 32 ≤ j → same_numbers (piece_at a p) (piece_at b q) ≡ leads part_within (part_at 0x11 a p) (parts_from 0x11 b q)
+    unfolding part_at
+    lies_same h =
+        let d : ltb (order_at 0x11 a p) 32 ≡ false = le-ltb _ 32 (omega arith) in
+        rw d at met_lies
+
+    module _ (h : j < 32) (wa : WholeAt a p) (wb : WholeFrom b q) (la : class_part (part_at 0x11 a p) ≡ true) (lb : all class_part (parts_from 0x11 b q) ≡ true) where
+      there : q < length b
+      there = met_there 0x11 a p b q met
+
+      left_class : IsClass (piece_at a p) 0
+      left_class = class_piece a p wa la (omega arith)
+
+      right_class : IsClass (piece_at b q) 0
+      right_class =
+          let l = (all_true class_part (part_at 0x11 b q) (parts_from 0x11 b (field_end b q)) (rw (parts_next 0x11 b q there) at lb)).0 in
+          class_piece b q (whole_here b q wb there) l (omega (arith, met_keys 0x11 a p b q met))
+
+      pub classes_here : IsClass a p × IsClass b q
+      classes_here = (class_there a p wa left_class, class_there b q (whole_here b q wb there) right_class)
+
+      pub lies_range : range_within (class_range a p) (class_range b q) ≡ leads part_within (part_at 0x11 a p) (parts_from 0x11 b q)
+      unfolding part_at
+      lies_range =
+          let d : ltb (order_at 0x11 a p) 32 ≡ true = lt-ltb _ 32 (omega arith) in
+          rw (range_there a p wa left_class, range_there b q (whole_here b q wb there) right_class, d) at met_lies
 
 -- What holds of all fields holds of those that are left.
 all_seek : (f : Part → Bool) (k : ℕ) (m : List Part) → all f m ≡ true → all f (seek k m) ≡ true

@@ -1,6 +1,7 @@
-pub mod Walks
-pub mod Linear
-pub mod Turns
 pub mod Agreeing
-pub mod Prefixes
 pub mod Containing
+pub mod Linear
+pub mod Prefixes
+pub mod Turns
+pub mod Walks
+pub mod Writing

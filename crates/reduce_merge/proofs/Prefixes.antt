@@ -1,21 +1,22 @@
 -- The fields that two files begin with alike: a law for each return and turn of the functions of `prefix`, and what the
 -- operators make of such fields.
-use Prim.Native.Nat.{ℕ, suc, ◌+◌, ◌<◌, ◌≤◌}
+use Prim.Native.Nat.{ℕ, suc, ◌+◌, ◌-◌, ◌<◌, ◌≤◌}
 use mathlib.Core.Path.{◌≡◌, refl, sym, ap, ◌∙◌}
-use mathlib.Core.Bool.{Bool, true, false, ◌&&◌}
+use mathlib.Core.Bool.{Bool, true, false}
 use mathlib.Core.List.{List, [], ◌∷◌, ◌++◌, append_assoc, append-nil}
-use native.Mathlib.Nat.{add-zero}
-use native.Mathlib.Numerals.{add-one}
 use native.Mathlib.Omega.{arith}
 use lib.ListN.{length, take, drop, get_or}
-use lib.Seq.{slice, slice_empty, take_all, take-suc, take-take, get_or-take}
-use lib.Dec.{ltb, eqb}
-use borrow.Author.Tests.{eq-eqb, eqb-true, ltb-false}
+use lib.Seq.{slice, slice_empty, take_all, take-take, take-add, get_or-take}
+use lib.Dec.{ltb}
+use lib.Pointwise.{pointwise}
+use Rattle.std.proofs.Common.{nat_eq}
+use Rattle.std.specs.Cmp.Lexicographic.{same_text}
+use borrow.Author.Tests.{eq-eqb, ltb-false}
 use Rattle.format_fields.specs.Lists.{all}
 use Rattle.format_fields.specs.Keyed.{agree, union, within, without}
 use Rattle.format_fields.specs.Fields.{pair_at}
 use Rattle.format_fields.specs.Inner.Places.{field_end, key_at, item_order, order_at}
-use Rattle.format_fields.proofs.Truth.{by_test, and_both, equal_numbers}
+use Rattle.format_fields.proofs.Truth.{by_test, equal_numbers}
 use Rattle.format_fields.proofs.Lists.{all_true}
 use Rattle.format_fields.proofs.Keyed.{From, is_rising}
 use Rattle.format_fields.proofs.Places.{end_past, places_done}
@@ -23,36 +24,17 @@ use Rattle.reduce_merge.specs.Inner.Parts.{Part, part_key, same_part, part_withi
 use Rattle.format_fields.proofs.Splices.{slice_join}
 use Rattle.reduce_merge.proofs.Walks.{parts_done, parts_next, whole_next}
 use Rattle.reduce_merge.proofs.Linear.{union_same, within_same, without_same, differ, self, outside, inside_itself}
-use Rattle.reduce_merge.proofs.Turns.{Rest, Going, Merging, progress_start, bytes_append, bytes_cons, bytes_none, all_bytes}
+use Rattle.reduce_merge.proofs.Writing.{writing_start}
+use Rattle.reduce_merge.proofs.Turns.{Rest, Going, Merging, bytes_append, bytes_cons, bytes_none, all_bytes}
 use Rattle.reduce_merge.proofs.Containing.{Containing}
 use Rattle.reduce_merge.proofs.Agreeing.{Agreeing, agree_pass, agree_drop}
 
--- The first bytes, one after the other.
-pub alike_start : (a b : List ℕ) → Alike a b 0
-alike_start a b = record { left = omega arith; right = omega arith; same = refl }
-
-module _ (a b : List ℕ) (n : ℕ) (h : Alike a b n) (u : n < length a) (v : n < length b) (e : get_or a n 0 ≡ get_or b n 0) where
-  pub alike_next : Alike a b (n + 1)
-  alike_next = record {
-    left = omega arith;
-    right = omega arith;
-    same = rw (add-one n, take-suc a n 0 u, take-suc b n 0 v, h.same, e);
-  }
-
--- `alike_on`: none of the sixteen bytes is passed
-pub sixteen_start : (a b : List ℕ) (n : ℕ) → Alike a b n → Alike a b (n + 0)
-sixteen_start a b n h = rw (add-zero n) h
-
--- i of the sixteen bytes are passed, and if all were the same so far, so are the first n + i
-module _ (a b : List ℕ) (n i : ℕ) (same : Bool) (h : same ≡ true → Alike a b (n + i)) where
-  pub sixteen_next : n + i < length a → n + i < length b → same && eqb (get_or a (n + i) 0) (get_or b (n + i) 0) ≡ true → Alike a b (n + (i + 1))
-  sixteen_next u v t =
-      let w = and_both same (eqb (get_or a (n + i) 0) (get_or b (n + i) 0)) t in
-      let d : n + i + 1 ≡ n + (i + 1) = omega arith in
-      rw (← d) (alike_next a b (n + i) (h w.0) u v (eqb-true _ _ w.1))
-
-  pub sixteen_done : i ≡ 16 → same ≡ true → Alike a b (n + 16)
-  sixteen_done e t = rw (← e) (h t)
+-- `alike_on`: k more bytes are the same.
+pub alike_more : (a b : List ℕ) (n k : ℕ) → Alike a b n → n + k ≤ length a → n + k ≤ length b
+    → true ≡ pointwise nat_eq (take (n + k - n) (drop n a)) (take (n + k - n) (drop n b)) → Alike a b (n + k)
+alike_more a b n k h u v e =
+    let d : n + k - n ≡ k = omega arith in
+    record { left = u; right = v; same = rw (take-add n k a, take-add n k b, h.same, rw d at (same_text (take (n + k - n) (drop n a)) (take (n + k - n) (drop n b)) e)) }
 
 -- What lies in the first n bytes is the same.
 module _ (a b : List ℕ) (n : ℕ) (h : Alike a b n) where
@@ -233,7 +215,8 @@ module _ (first : ℕ) (a b : List ℕ) (r : ℕ) (h : Sorted first a × Sorted 
 
   pub shared_merge : (o : List ℕ) → Merging first a b o o 0 r r 0
   shared_merge o = record {
-    progress = rw (← united_is) (progress_start (united first a b) o);
+    writing = writing_start _ _ o 0 united_is;
+    room = omega arith;
     rise = omega arith;
     left = rest_left;
     right = rest_right;
@@ -248,7 +231,8 @@ module _ (first : ℕ) (a b : List ℕ) (r : ℕ) (h : Sorted first a × Sorted 
 
   pub shared_remove : (o : List ℕ) → Going (without same_part) (removed first a b) first a b o o r r 0
   shared_remove o = record {
-    progress = rw (← removed_is) (progress_start (removed first a b) o);
+    writing = writing_start _ _ o 0 removed_is;
+    room = omega arith;
     left = rest_left;
     right = rest_right;
   }

@@ -1,91 +1,33 @@
 -- The operators on bytes, a turn of their loops at a time: a law for each return and turn of `merge`.
+use Rattle.std.specs.Prelude.{None, Option, Some}
 use Prim.Native.Nat.{ℕ, zero, suc, ◌-◌, ◌<◌, ◌≤◌}
-use mathlib.Core.Path.{◌≡◌, refl, sym, ap, ◌∙◌}
+use mathlib.Core.Path.{◌≡◌, refl, sym, ap, subst, ◌∙◌}
 use mathlib.Core.Bool.{Bool, true, false, cond, not, ◌&&◌}
 use mathlib.Core.List.{List, [], ◌∷◌, ◌++◌, append_assoc, append-nil}
 use native.Mathlib.Omega.{arith}
-use lib.ListN.{length, length-append}
+use lib.ListN.{length}
 use lib.Seq.{slice, slice_empty}
 use lib.Dec.{ltb, leb}
 use borrow.Author.Tests.{ltb-true, ltb-false, leb-true, leb-false}
 use Rattle.format_fields.specs.Lists.{keep, concat_map}
 use Rattle.format_fields.specs.Keyed.{union, within, without}
 use Rattle.format_fields.specs.Inner.Places.{field_end, order_at}
-use Rattle.format_fields.specs.Inner.Writing.{Inside, Written, Stores}
+use Rattle.format_fields.specs.Inner.Writing.{Inside, Stores}
 use Rattle.format_fields.proofs.Truth.{by_test}
 use Rattle.format_fields.proofs.Codec.{concat_append}
-use Rattle.format_fields.proofs.Keyed.{From, is_rising}
+use Rattle.format_fields.proofs.Keyed.{From}
 use Rattle.format_fields.proofs.Places.{end_past}
-use Rattle.format_fields.specs.declared.copy.Stored.{Stored}
-use Rattle.format_fields.specs.declared.copy.Stored.TheVariants.{To, Full}
-use Rattle.reduce_merge.specs.Inner.Parts.{Part, part_key, same_part, part_within, bytes_of, piece_at, part_at, parts_from, parts, WholeAt, WholeFrom, Sorted, lower, seek, SoughtAt, leads, united}
-use Rattle.format_fields.proofs.Splices.{slice_join, nothing_spliced, written_then}
+use Rattle.reduce_merge.specs.Inner.Parts.{Part, part_key, same_part, part_within, bytes_of, piece_at, part_at, parts_from, WholeAt, WholeFrom, lower, seek, SoughtAt, leads, united, removed}
+use Rattle.format_fields.proofs.Splices.{slice_join}
 use Rattle.reduce_merge.proofs.Walks.{parts_done, parts_next, whole_here, whole_next}
+use Rattle.reduce_merge.proofs.Writing.{Writing, writing_full, writing_room, writing_next, writing_done}
 use Rattle.reduce_merge.proofs.Linear.{union_none, union_low, union_same, union_nothing, union_high, without_turn, within_turn, seek_from, differ, outside}
-
--- What is written of a result, and what is left of it.
-pub record Progress (result left o out : List ℕ) (n : ℕ) : Type 0 where
-  pub before : List ℕ
-  pub all : before ++ left ≡ result
-  pub written : Written before o out 0 n
-  pub long : length out ≡ length o
-
-pub progress_start : (result o : List ℕ) → Progress result result o o 0
-progress_start result o = record {
-  before = [];
-  all = refl;
-  written = record { end = refl; fits = omega arith; bytes = nothing_spliced o 0 };
-  long = refl;
-}
-
-module _ (result left o out : List ℕ) (n : ℕ) (h : Progress result left o out n) where
-  -- v is to be written next, and then more is left
-  module _ (v more : List ℕ) (e : left ≡ v ++ more) (out' : List ℕ) (x : Stored) (w : Stores v out out' n x) where
-    pub progress_on : (m : ℕ) → x ≡ To m → length out' ≡ length out → Progress result more o out' m
-    progress_on m d l = record {
-      before = h.before ++ v;
-      all = append_assoc h.before v more ∙ (ap (λ (r : List ℕ). h.before ++ r) (sym e) ∙ h.all);
-      written = written_then h.before v o out out' 0 n m h.written (w.done m d) h.long;
-      long = l ∙ h.long;
-    }
-
-    pub progress_full : x ≡ Full → Stores result o out' 0 Full
-    progress_full d = record {
-      done = λ m q. let z : ◌≡◌ {A = ℕ} 0 1 = cc in absurd (omega arith);
-      full = λ q.
-          omega (arith, w.full d, h.long, h.written.end, ap length h.all, length-append h.before left, ap length e, length-append v more);
-    }
-
-  -- what is left is written last
-  pub progress_last : (v out' : List ℕ) (x : Stored) → left ≡ v → Stores v out out' n x → Stores result o out' 0 x
-  progress_last v out' x e w = record {
-    done = λ m q.
-        let k = written_then h.before v o out out' 0 n m h.written (w.done m q) h.long in
-        rw (← h.all, e) k;
-    full = λ q. omega (arith, w.full q, h.long, h.written.end, ap length h.all, length-append h.before left, ap length e);
-  }
-
-  -- nothing is left
-  pub progress_done : left ≡ [] → Stores result o out 0 (To n)
-  progress_done e = record {
-    done = λ m q.
-        let k : n ≡ m = cc in
-        rw (← k, ← h.all, e, append-nil h.before) h.written;
-    full = λ q. let z : ◌≡◌ {A = ℕ} 0 1 = cc in absurd (omega arith);
-  }
 
 -- What is known of the fields from p on.
 pub record Rest (first : ℕ) (s : List ℕ) (p : ℕ) : Type 0 where
   pub from : WholeFrom s p
   pub least : ℕ
   pub rises : From part_key least (parts_from first s p)
-
-pub rest_start : (first : ℕ) (s : List ℕ) → Sorted first s → Rest first s 0
-rest_start first s h = record {
-  from = record { inside = omega arith; long = h.long; whole = h.whole };
-  least = 0;
-  rises = is_rising part_key (parts first s) h.rises;
-}
 
 rest_rises : (first : ℕ) (s : List ℕ) (p k r : ℕ) → Rest first s p → SoughtAt first s p k r → From part_key k (parts_from first s r)
 rest_rises first s p k r h w = rw w.rest (seek_from k h.least (parts_from first s p) h.rises)
@@ -159,15 +101,15 @@ module _ (first : ℕ) (a b : List ℕ) (p q : ℕ) (ra : Rest first a p) (rb : 
 
   -- b is sought through: what is left of it begins with a field to which the one at p stands by the test, or does not
   module _ (r : ℕ) (w : SoughtAt first b q key r) where
-    sought : seek (order_at first a p) (parts_from first b q) ≡ parts_from first b r
+    pub sought : seek (order_at first a p) (parts_from first b q) ≡ parts_from first b r
     sought = sym (rw ek at w.rest)
 
-    leads_is : (alike : Part → Part → Bool) (stands : Bool) → stands ≡ leads alike (part_at first a p) (parts_from first b r)
+    pub leads_is : (alike : Part → Part → Bool) (stands : Bool) → stands ≡ leads alike (part_at first a p) (parts_from first b r)
         → leads alike (part_at first a p) (seek (order_at first a p) (parts_from first b q)) ≡ stands
     leads_is alike stands es = ap (leads alike (part_at first a p)) sought ∙ sym es
 
     -- `remove`
-    pub remove_turn : (e : ℕ) → e ≡ field_end a p → (stands : Bool) → stands ≡ leads same_part (part_at first a p) (parts_from first b r)
+    remove_turn : (e : ℕ) → e ≡ field_end a p → (stands : Bool) → stands ≡ leads same_part (part_at first a p) (parts_from first b r)
         → bytes_of (without same_part (parts_from first a p) (parts_from first b q))
         ≡ cond (not stands) (slice p e a) [] ++ bytes_of (without same_part (parts_from first a e) (parts_from first b r))
     unfolding part_at
@@ -200,46 +142,61 @@ module _ (first : ℕ) (a b : List ℕ) (p q : ℕ) (end : length a ≤ p) where
       ap bytes_of (ap (λ (r : List Part). union part_key r (parts_from first b q)) (parts_done first a p end) ∙ union_none part_key (parts_from first b q))
       ∙ all_bytes (suc (length b)) first b q (omega arith) w
 
-  pub remove_end : bytes_of (without same_part (parts_from first a p) (parts_from first b q)) ≡ []
+  remove_end : bytes_of (without same_part (parts_from first a p) (parts_from first b q)) ≡ []
   unfolding without keep
   remove_end = ap (λ (r : List Part). bytes_of (without same_part r (parts_from first b q))) (parts_done first a p end) ∙ bytes_none
 
 -- Where `remove` is: the result so far, by what the operator makes of the fields that are left.
 pub record Going (op : List Part → List Part → List Part) (result : List ℕ) (first : ℕ) (a b o out : List ℕ) (p q n : ℕ) : Type 0 where
-  pub progress : Progress result (bytes_of (op (parts_from first a p) (parts_from first b q))) o out n
+  pub writing : Writing result (bytes_of (op (parts_from first a p) (parts_from first b q))) o out 0 n
+  pub room : n ≤ length out
   pub left : Rest first a p
   pub right : Rest first b q
 
--- There is room for what is written so far.
-pub going_room : (op : List Part → List Part → List Part) (result : List ℕ) (first : ℕ) (a b o out : List ℕ) (p q n : ℕ)
-    → Going op result first a b o out p q n → n ≤ length out
-going_room op result first a b o out p q n h = omega (arith, h.progress.long, h.progress.written.fits)
+module _ (first : ℕ) (a b o out : List ℕ) (p q n : ℕ) (h : Going (without same_part) (removed first a b) first a b o out p q n) where
+  -- nothing is left of a
+  pub removing_done : length a ≤ p → Stores (removed first a b) o out 0 (Some n)
+  removing_done d = writing_done _ _ _ _ _ _ h.writing (remove_end first a b p q d) h.room
+
+  -- past the field of a at p, where b is sought through
+  module _ (here : p < length a) (key : ℕ) (ek : key ≡ order_at first a p) (r : ℕ) (w : SoughtAt first b q key r) (e : ℕ) (ee : e ≡ field_end a p)
+      (stands : Bool) (es : stands ≡ leads same_part (part_at first a p) (parts_from first b r)) (out' : List ℕ) (x : Option ℕ)
+      (s : Stores (cond (not stands) (slice p e a) []) out out' n x) where
+    turn : bytes_of (without same_part (parts_from first a p) (parts_from first b q)) ≡ cond (not stands) (slice p e a) [] ++ bytes_of (without same_part (parts_from first a e) (parts_from first b r))
+    turn = remove_turn first a b p q h.left h.right here key ek r w e ee stands es
+
+    pub removing_full : x ≡ None → Stores (removed first a b) o out' 0 None
+    removing_full z = writing_full _ _ _ _ _ _ h.writing _ _ turn out' x s z
+
+    pub removing_on : (m : ℕ) → x ≡ Some m → length out' ≡ length out → Going (without same_part) (removed first a b) first a b o out' e r m
+    removing_on m z l = record {
+      writing = writing_next _ _ _ _ _ _ h.writing _ _ turn out' x s m z l;
+      room = writing_room _ _ _ _ _ _ h.writing _ _ turn out' x s m z l;
+      left = rest_next first a p h.left here e ee;
+      right = rest_sought first b q key r h.right w;
+    }
 
 -- Where `merge` is: the bytes of a from `from` up to p come next, and then the union of what is left.
 pub record Merging (first : ℕ) (a b o out : List ℕ) (from p q n : ℕ) : Type 0 where
-  pub progress : Progress (united first a b) (slice from p a ++ bytes_of (union part_key (parts_from first a p) (parts_from first b q))) o out n
+  pub writing : Writing (united first a b) (slice from p a ++ bytes_of (union part_key (parts_from first a p) (parts_from first b q))) o out 0 n
+  pub room : n ≤ length out
   pub rise : from ≤ p
   pub left : Rest first a p
   pub right : Rest first b q
 
 module _ (first : ℕ) (a b o out : List ℕ) (from p q n : ℕ) (h : Merging first a b o out from p q n) where
-  pub merging_room : n ≤ length out
-  merging_room = omega (arith, h.progress.long, h.progress.written.fits)
-
   pub merging_inside : Inside a from p
   merging_inside = record { rise = h.rise; fits = h.left.from.inside }
 
   -- nothing is left of one of them
-  pub merging_done : length a ≤ p → (out' : List ℕ) (x : Stored) → Stores (slice from (length a) a ++ slice q (length b) b) out out' n x
+  pub merging_done : length a ≤ p → (out' : List ℕ) (x : Option ℕ) → Stores (slice from (length a) a ++ slice q (length b) b) out out' n x
       → Stores (united first a b) o out' 0 x
   merging_done d out' x w =
       let e : p ≡ length a = omega (arith, h.left.from.inside) in
-      progress_last _ _ _ _ _ h.progress _ out' x
-      (ap (λ (i : ℕ). slice from i a ++ bytes_of (union part_key (parts_from first a p) (parts_from first b q))) e
-      ∙ ap (λ (r : List ℕ). slice from (length a) a ++ r) (merge_end first a b p q d h.right.from))
-      w
+      h.writing.rest out' x (subst (λ (v : List ℕ). Stores v out out' n x) (sym (ap (λ (i : ℕ). slice from i a ++ bytes_of (union part_key (parts_from first a p) (parts_from first b q))) e
+      ∙ ap (λ (r : List ℕ). slice from (length a) a ++ r) (merge_end first a b p q d h.right.from))) w)
 
-  pub merging_out : length b ≤ q → (out' : List ℕ) (x : Stored) → Stores (slice from (length a) a ++ slice q (length b) b) out out' n x
+  pub merging_out : length b ≤ q → (out' : List ℕ) (x : Option ℕ) → Stores (slice from (length a) a ++ slice q (length b) b) out out' n x
       → Stores (united first a b) o out' 0 x
   merging_out d out' x w =
       let e : q ≡ length b = omega (arith, h.right.from.inside) in
@@ -247,11 +204,9 @@ module _ (first : ℕ) (a b o out : List ℕ) (from p q n : ℕ) (h : Merging fi
       let rest : bytes_of (union part_key (parts_from first a p) (parts_from first b q)) ≡ slice p (length a) a =
       ap (λ (r : List Part). bytes_of (union part_key (parts_from first a p) r)) (parts_done first b q d)
       ∙ (ap bytes_of (union_nothing h.left.least (parts_from first a p) h.left.rises) ∙ all_bytes (suc (length a)) first a p (omega arith) h.left.from) in
-      progress_last _ _ _ _ _ h.progress _ out' x
-      (ap (λ (r : List ℕ). slice from p a ++ r) rest
+      h.writing.rest out' x (subst (λ (v : List ℕ). Stores v out out' n x) (sym (ap (λ (r : List ℕ). slice from p a ++ r) rest
       ∙ (slice_join a from p (length a) h.rise h.left.from.inside (omega arith)
-      ∙ (sym (append-nil (slice from (length a) a)) ∙ ap (λ (r : List ℕ). slice from (length a) a ++ r) (sym none))))
-      w
+      ∙ (sym (append-nil (slice from (length a) a)) ∙ ap (λ (r : List ℕ). slice from (length a) a ++ r) (sym none))))) w)
 
   module _ (there : p < length a) where
     abbrev x : Part
@@ -287,7 +242,8 @@ module _ (first : ℕ) (a b o out : List ℕ) (from p q n : ℕ) (h : Merging fi
           let w : union part_key (x ∷ l) (parts_from first b q) ≡ x ∷ union part_key l (parts_from first b q) =
           rw next_right (union_low x (part_at first b q) l (parts_from first b (field_end b q)) h.right.least (here_rises first a p h.left there) right_rises d) in
           rw ee (record {
-            progress = rw (← past (parts_from first b q) w) h.progress;
+            writing = rw (← past (parts_from first b q) w) h.writing;
+            room = h.room;
             rise = omega (arith, h.rise, end_past a p);
             left = rest_next first a p h.left there (field_end a p) refl;
             right = h.right;
@@ -300,7 +256,8 @@ module _ (first : ℕ) (a b o out : List ℕ) (from p q n : ℕ) (h : Merging fi
           let w : union part_key (x ∷ l) (parts_from first b q) ≡ x ∷ union part_key l (parts_from first b (field_end b q)) =
           rw next_right (union_same x (part_at first b q) l (parts_from first b (field_end b q)) h.right.least (here_rises first a p h.left there) right_rises f) in
           rw (ee, ed) (record {
-            progress = rw (← past (parts_from first b (field_end b q)) w) h.progress;
+            writing = rw (← past (parts_from first b (field_end b q)) w) h.writing;
+            room = h.room;
             rise = omega (arith, h.rise, end_past a p);
             left = rest_next first a p h.left there (field_end a p) refl;
             right = rest_next first b q h.right here (field_end b q) refl;
@@ -330,13 +287,14 @@ module _ (first : ℕ) (a b o out : List ℕ) (from p q n : ℕ) (h : Merging fi
             ∙ (ap (λ (r : List ℕ). slice from p a ++ (r ++ bytes_of (union part_key (parts_from first a p) (parts_from first b d)))) (sym s.skipped)
             ∙ sym (append_assoc (slice from p a) (slice q d b) (bytes_of (union part_key (parts_from first a p) (parts_from first b d))))))
 
-        module _ (out' : List ℕ) (y : Stored) (w : Stores (slice from p a ++ slice q d b) out out' n y) where
-          pub merging_full : y ≡ Full → Stores (united first a b) o out' 0 Full
-          merging_full e = progress_full _ _ _ _ _ h.progress _ _ split out' y w e
+        module _ (out' : List ℕ) (y : Option ℕ) (w : Stores (slice from p a ++ slice q d b) out out' n y) where
+          pub merging_full : y ≡ None → Stores (united first a b) o out' 0 None
+          merging_full e = writing_full _ _ _ _ _ _ h.writing _ _ split out' y w e
 
-          pub merging_high : (m : ℕ) → y ≡ To m → length out' ≡ length out → Merging first a b o out' p p d m
+          pub merging_high : (m : ℕ) → y ≡ Some m → length out' ≡ length out → Merging first a b o out' p p d m
           merging_high m e i = record {
-            progress = rw (slice_empty p a) (progress_on _ _ _ _ _ h.progress _ _ split out' y w m e i);
+            writing = rw (slice_empty p a) (writing_next _ _ _ _ _ _ h.writing _ _ split out' y w m e i);
+            room = writing_room _ _ _ _ _ _ h.writing _ _ split out' y w m e i;
             rise = omega arith;
             left = h.left;
             right = rest_sought first b q j d h.right s;

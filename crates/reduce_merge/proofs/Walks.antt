@@ -1,21 +1,22 @@
 -- The fields by key and bytes, a turn of the walk at a time: a law for each return and turn of the functions of `meet`.
 use Prim.Native.Nat.{ℕ, ◌+◌, ◌-◌, ◌<◌, ◌≤◌}
 use mathlib.Core.Path.{◌≡◌, refl, sym, ap, ◌∙◌}
-use mathlib.Core.Bool.{Bool, true, false, not}
+use mathlib.Core.Bool.{Bool, true, false, not, ◌&&◌}
 use mathlib.Core.List.{List, [], ◌∷◌, ◌++◌}
-use native.Mathlib.Nat.{add-zero}
 use native.Mathlib.Omega.{arith}
-use lib.ListN.{length, get_or}
-use lib.Seq.{slice, slice_empty, length-slice}
-use lib.Dec.{ltb, leb}
-use borrow.Author.Tests.{lt-ltb, le-ltb, ltb-true, eq-eqb, ne_eqb, leb-true, leb-false}
+use lib.ListN.{length, take, drop}
+use lib.Seq.{slice_empty}
+use lib.Pointwise.{pointwise}
+use Rattle.std.proofs.Common.{nat_eq}
+use lib.Dec.{eqb, ltb, leb}
+use borrow.Author.Tests.{lt-ltb, le-ltb, ltb-true, eq-eqb, ne_eqb, eqb-true, leb-true, leb-false}
 use Rattle.format_fields.specs.Lists.{all, concat_map, same_numbers}
-use Rattle.format_fields.specs.Inner.Places.{field_end, is_whole, long_at, places_from, order_at, Skipped}
-use Rattle.format_fields.proofs.Truth.{by_test, numbers_equal, refuted}
-use Rattle.format_fields.proofs.Lists.{cons_both, all_true, part_done, part_next}
+use Rattle.format_fields.specs.Inner.Places.{field_end, EndsAt, is_whole, long_at, places_from, order_at, Skipped}
+use Rattle.format_fields.proofs.Truth.{by_test, not_both}
+use Rattle.format_fields.proofs.Lists.{cons_both, all_true}
 use Rattle.format_fields.proofs.Places.{end_past, places_done, places_next, every_here, long_here}
-use Rattle.reduce_merge.specs.Inner.Parts.{Part, same_part, bytes_of, piece_at, part_at, parts_from, WholeAt, WholeFrom, lower, seek, SoughtAt, leads, parts_clash}
-use Rattle.format_fields.proofs.Splices.{slice_join}
+use Rattle.reduce_merge.specs.Inner.Parts.{Part, same_part, bytes_of, piece_at, part_at, parts_from, WholeAt, WholeFrom, lower, seek, SoughtAt, leads, same_key, parts_clash}
+use Rattle.format_fields.proofs.Splices.{slice_is, slice_join}
 
 -- The fields from p on: at the end, and at a field.
 module _ (first : ℕ) (s : List ℕ) (p : ℕ) where
@@ -138,54 +139,74 @@ module _ (first : ℕ) (s : List ℕ) (k r : ℕ) where
   pub sought : (p : ℕ) → WholeFrom s p → Skipped first k s p r → SoughtAt first s p k r
   sought p w z = sought_by z.before p w (z.inside w.whole w.inside) z.stops z.are z.below
 
--- `same_field`
-module _ (a b : List ℕ) (p e q d : ℕ) (fa : e ≤ length a) (fb : d ≤ length b) where
-  pub same_start : same_numbers (slice (p + 0) e a) (slice (q + 0) d b) ≡ same_numbers (slice p e a) (slice q d b)
-  same_start = rw (add-zero p, add-zero q)
+-- `same_field`: the test of the code and that of the definitions.
+same_pointwise : (l m : List ℕ) → pointwise nat_eq l m ≡ same_numbers l m
+unfolding same_numbers
+same_pointwise [] [] = refl
+same_pointwise [] (y ∷ m) = refl
+same_pointwise (x ∷ l) [] = refl
+same_pointwise (x ∷ l) (y ∷ m) = ap (λ (t : Bool). nat_eq x y && t) (same_pointwise l m)
 
-  pub same_long : (d - q ≡ e - p → ⊥) → false ≡ same_numbers (slice p e a) (slice q d b)
-  same_long h =
-      sym (refuted (same_numbers (slice p e a) (slice q d b)) (λ t.
-      h (sym (length-slice q d b fb) ∙ (sym (ap length (numbers_equal (slice p e a) (slice q d b) t)) ∙ length-slice p e a fa))))
+pub same_pieces : (a b : List ℕ) (p e q d : ℕ) → EndsAt a p e → EndsAt b q d → WholeAt a p → WholeAt b q
+    → pointwise nat_eq (take (e - p) (drop p a)) (take (d - q) (drop q b)) ≡ same_numbers (piece_at a p) (piece_at b q)
+same_pieces a b p e q d f g u v =
+    let i : e ≤ length a = omega (arith, f.is, u.fits) in
+    let j : d ≤ length b = omega (arith, g.is, v.fits) in
+    rw (← f.is, ← g.is, slice_is a p e (omega (arith, f.past)) i, slice_is b q d (omega (arith, g.past)) j) (same_pointwise _ _)
 
-  module _ (i : ℕ) (x : Bool) (inv : same_numbers (slice (p + i) e a) (slice (q + i) d b) ≡ x) where
-    pub same_end : e ≤ p + i → d ≤ q + i → true ≡ x
-    unfolding same_numbers
-    same_end h j =
-        part_done (λ (m : List ℕ). same_numbers [] m) b (q + i) d x
-        (part_done (λ (l : List ℕ). same_numbers l (slice (q + i) d b)) a (p + i) e x inv h) j
+-- A test that asks for one key, and for more.
+module _ (more : Part → Part → Bool) where
+  abbrev pub keyed : Part → Part → Bool
+  keyed x y = eqb x.key y.key && more x y
 
-    module _ (ha : p + i < e) (hb : q + i < d) where
-      heads : same_numbers (get_or a (p + i) 0 ∷ slice (p + i + 1) e a) (get_or b (q + i) 0 ∷ slice (q + i + 1) d b) ≡ x
-      heads =
-          part_next (λ (m : List ℕ). same_numbers (get_or a (p + i) 0 ∷ slice (p + i + 1) e a) m) b (q + i) d x
-          (part_next (λ (l : List ℕ). same_numbers l (slice (q + i) d b)) a (p + i) e x inv ha fa) hb fb
+  pub keyed_not : (x : Part) (l : List Part) → leads same_key x l ≡ false → leads keyed x l ≡ false
+  unfolding same_key
+  keyed_not x [] h = refl
+  keyed_not x (y ∷ l) h = rw h
 
-      pub same_differ : (get_or a (p + i) 0 ≡ get_or b (q + i) 0 → ⊥) → false ≡ x
-      unfolding same_numbers
-      same_differ h = rw (ne_eqb _ _ h) at heads
+  pub keyed_more : (x y : Part) (l : List Part) → leads same_key x (y ∷ l) ≡ true → leads keyed x (y ∷ l) ≡ more x y
+  unfolding same_key
+  keyed_more x y l h = rw h
 
-      pub same_on : get_or a (p + i) 0 ≡ get_or b (q + i) 0 → same_numbers (slice (p + (i + 1)) e a) (slice (q + (i + 1)) d b) ≡ x
-      unfolding same_numbers
-      same_on h =
-          let m : p + i + 1 ≡ p + (i + 1) = omega arith in
-          let n : q + i + 1 ≡ q + (i + 1) = omega arith in
-          rw (← m, ← n) (rw (eq-eqb _ _ h) at heads)
-
--- `stands_at` and `agree`: j and k are the keys of the fields at p and q
+-- `meets`, and the tests that ask for it: the fields at p and q
 module _ (first : ℕ) (a : List ℕ) (p : ℕ) (b : List ℕ) (q : ℕ) where
-  pub stands_end : (alike : Part → Part → Bool) → length b ≤ q → false ≡ leads alike (part_at first a p) (parts_from first b q)
-  stands_end alike h = rw (parts_done first b q h)
+  pub meets_end : length b ≤ q → false ≡ leads same_key (part_at first a p) (parts_from first b q)
+  meets_end h = rw (parts_done first b q h)
 
+  pub meets_key : q < length b → eqb (order_at first a p) (order_at first b q) ≡ leads same_key (part_at first a p) (parts_from first b q)
+  unfolding same_key part_at
+  meets_key h = rw (parts_next first b q h)
+
+  pub no_stand : false ≡ leads same_key (part_at first a p) (parts_from first b q) → false ≡ leads same_part (part_at first a p) (parts_from first b q)
+  unfolding same_part
+  no_stand h = sym (keyed_not (λ x y. same_numbers x.bytes y.bytes) _ _ (sym h))
+
+  module _ (met : true ≡ leads same_key (part_at first a p) (parts_from first b q)) where
+    pub met_there : q < length b
+    met_there =
+        by_test (leb (length b) q)
+        (λ d. not_both (sym met) (sym (meets_end (leb-true _ _ d))))
+        (λ d. leb-false _ _ d)
+
+    next_met : leads same_key (part_at first a p) (part_at first b q ∷ parts_from first b (field_end b q)) ≡ true
+    next_met = sym (met ∙ ap (leads same_key (part_at first a p)) (parts_next first b q met_there))
+
+    pub met_keys : order_at first a p ≡ order_at first b q
+    unfolding same_key part_at
+    met_keys = eqb-true _ _ next_met
+
+    -- what more the test asks, it asks of the two fields
+    pub met_more : (more : Part → Part → Bool) → more (part_at first a p) (part_at first b q) ≡ leads (keyed more) (part_at first a p) (parts_from first b q)
+    met_more more =
+        sym (ap (leads (keyed more) (part_at first a p)) (parts_next first b q met_there)
+        ∙ keyed_more more (part_at first a p) (part_at first b q) (parts_from first b (field_end b q)) next_met)
+
+    pub met_stands : same_numbers (piece_at a p) (piece_at b q) ≡ leads same_part (part_at first a p) (parts_from first b q)
+    unfolding same_part part_at
+    met_stands = met_more (λ x y. same_numbers x.bytes y.bytes)
+
+  -- what a clash is, by the keys of the fields
   module _ (j k : ℕ) (ej : j ≡ order_at first a p) (ek : k ≡ order_at first b q) where
-    pub stands_other : q < length b → (j ≡ k → ⊥) → false ≡ leads same_part (part_at first a p) (parts_from first b q)
-    unfolding same_part part_at
-    stands_other h d = rw (parts_next first b q h) (cc (ne_eqb j k d))
-
-    pub stands_same : q < length b → j ≡ k → (x : Bool) → x ≡ same_numbers (piece_at a p) (piece_at b q) → x ≡ leads same_part (part_at first a p) (parts_from first b q)
-    unfolding same_part part_at
-    stands_same h d x e = rw (parts_next first b q h) (cc (eq-eqb j k d))
-
     pub clash_other : (j ≡ k → ⊥) → false ≡ parts_clash (part_at first a p) (part_at first b q)
     unfolding parts_clash part_at
     clash_other d = cc (ne_eqb j k d)

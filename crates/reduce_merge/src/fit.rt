@@ -12,8 +12,5 @@ pub fn languages_fit(a: &[u8], b: &[u8]) -> bool
     requires { RisingEntries a.now × RisingEntries b.now }
     ensures { result ≡ fit_together a.now b.now }
 {
-    if clash_between(a, b) {
-        return false;
-    }
-    agree(a, b, CLASS)
+    !clash_between(a, b) && agree(a, b, CLASS)
 }

@@ -9,19 +9,7 @@ fn alike_on(a: &[u8], b: &[u8], n: usize) -> bool
     requires { Alike a.now b.now n }
     ensures { result ≡ true → Alike a.now b.now (n + 16) }
 {
-    if a.len() - n < 16 {
-        return false;
-    }
-    if b.len() - n < 16 {
-        return false;
-    }
-    let mut same = true;
-    let mut i = 0;
-    while i < 16 {
-        same = same & (a[n + i] == b[n + i]);
-        i += 1;
-    }
-    same
+    a.len() - n >= 16 && b.len() - n >= 16 && a[n..n + 16] == b[n..n + 16]
 }
 
 // A number of first bytes that are the same in both, by sixteens.
@@ -39,17 +27,13 @@ fn alike_by_sixteen(a: &[u8], b: &[u8]) -> usize
 fn alike(a: &[u8], b: &[u8]) -> usize
     ensures { Alike a.now b.now result }
 {
-    let mut n = alike_by_sixteen(a, b);
-    while n < a.len() {
-        if b.len() <= n {
-            return n;
+    let shorter = a.len().min(b.len());
+    for i in alike_by_sixteen(a, b)..shorter {
+        if a[i] != b[i] {
+            return i;
         }
-        if a[n] != b[n] {
-            return n;
-        }
-        n += 1;
     }
-    n
+    shorter
 }
 
 // Where the fields end that both files begin with: all of them where the files are the same, and else those whose keys
@@ -59,10 +43,8 @@ pub fn shared(a: &[u8], b: &[u8]) -> usize
     ensures { (leading : ℕ) → Shared leading a.now b.now result }
 {
     let n = alike(a, b);
-    if a.len() == n {
-        if b.len() == n {
-            return n;
-        }
+    if a.len() == n && b.len() == n {
+        return n;
     }
     let mut p = 0;
     while p + 5 <= n {

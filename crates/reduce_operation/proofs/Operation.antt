@@ -1,4 +1,5 @@
 -- The operation reduce: what is ready, what its term comes to, and what is delivered.
+use Rattle.std.specs.Prelude.{Err, Ok, Option}
 use Prim.Native.Nat.{ℕ, ◌+◌, ◌≤◌}
 use mathlib.Core.Path.{◌≡◌, refl, ap, sym, subst, ◌∙◌}
 use mathlib.Core.Bool.{Bool, true, false, not, ◌||◌}
@@ -9,9 +10,7 @@ use lib.ListN.{length, take, drop, get_or, replicate, length-take}
 use lib.Seq.{length-take-le}
 use lib.Dec.{ltb}
 use borrow.Author.Tests.{ltb-false}
-use Rattle.outcome.specs.Outcome.{Result, value, refused, refuse_if, ◌>>=◌, checked, written, output_after}
-use Rattle.outcome.specs.declared.Outcome.{Outcome}
-use Rattle.outcome.specs.declared.Outcome.TheVariants.{Accepted, Refused}
+use Rattle.outcome.specs.Outcome.{Result, value, refused, refuse_if, ◌>>=◌, checked, written, output_after, Outcome}
 use Rattle.outcome.specs.declared.Reason.{Reason}
 use Rattle.outcome.specs.declared.Reason.TheVariants.{BuffersTooShort, IllegalTerm as TermRefused}
 use Rattle.format_fields.proofs.Truth.{or_false, true_not}
@@ -19,16 +18,13 @@ use Rattle.format_fields.proofs.Codec.{refused_value}
 use Rattle.format_translation.specs.Translation.{Translation}
 use Rattle.format_translation.proofs.Fitting.{refuse_value}
 use Rattle.format_fields.specs.Inner.Writing.{Stores, spliced}
-use Rattle.format_fields.specs.declared.copy.Stored.{Stored}
 use Rattle.format_pack.specs.Terms.{Term, translations, Parse, read_term, scoped}
 use Rattle.format_pack.specs.Pack.{Pack, pack_of, term_of, whole_term, term_limit}
 use Rattle.reduce_signs.specs.declared.places.Places.{Places}
-use Rattle.reduce_signs.specs.declared.evaluated.Evaluated.{Evaluated}
-use Rattle.reduce_signs.specs.declared.evaluated.Evaluated.TheVariants as Evaluateds
 use Rattle.reduce_signs.specs.Evaluation.{constants_of, nothing_bound, evaluate}
 use Rattle.reduce_operation.specs.Operations.{Ready, ready, work, reduce_bytes, workspace_after, reduce}
 use Rattle.reduce_operation.specs.Inner.Delivery.{file_of}
-use Rattle.reduce_signs.specs.Inner.Values.{Sized}
+use Rattle.reduce_signs.specs.Inner.Values.{Evaluated, Sized}
 use Rattle.reduce_terms.specs.Inner.Reducing.{Context, Stands, Left, Says, Gives}
 use Rattle.reduce_terms.proofs.Evaluated.{step_value, value_inj}
 use Rattle.reduce_terms.proofs.Holding.{nothing_held}
@@ -55,23 +51,23 @@ ready_value bytes w o r e =
     subst (λ (x : Ready). (pack_of bytes ≡ value x.pack) × (term_of x.pack ≡ value x.term) × ((ltb w 65536 || ltb o 4096) ≡ false)) q (a.1, b.1, c.0)
 
 -- What a check says of what it checked.
-checked_refused : {A : Type 0} (r : Result A) {z : Reason} → checked r ≡ Refused z → r ≡ refused z
+checked_refused : {A : Type 0} (r : Result A) {z : Reason} → checked r ≡ Err z → r ≡ refused z
 checked_refused (value a) e = let z : ◌≡◌ {A = ℕ} 0 1 = cc in absurd (omega arith)
 checked_refused (refused w) e = cc
 
-pub checked_value : {A : Type 0} (r : Result A) {q : Outcome} {n : ℕ} → q ≡ checked r → q ≡ Accepted n → (a : A) × (r ≡ value a)
+pub checked_value : {A : Type 0} (r : Result A) {q : Outcome} {n : ℕ} → q ≡ checked r → q ≡ Ok n → (a : A) × (r ≡ value a)
 checked_value (value a) e d = (a, refl)
 checked_value (refused w) e d = let z : ◌≡◌ {A = ℕ} 0 1 = cc in absurd (omega arith)
 
 module _ (s : List ℕ) (w o : ℕ) where
   -- The pack is refused.
-  pub ready_pack : {q : Outcome} {z : Reason} → q ≡ checked (pack_of s) → q ≡ Refused z → q ≡ checked (ready s w o)
+  pub ready_pack : {q : Outcome} {z : Reason} → q ≡ checked (pack_of s) → q ≡ Err z → q ≡ checked (ready s w o)
   unfolding ready
   ready_pack e d = let h = checked_refused (pack_of s) (sym e ∙ d) in rw h d
 
   module _ {p : Pack} (opens : pack_of s ≡ value p) where
     -- Its term is refused.
-    pub ready_term : {q : Outcome} {z : Reason} → q ≡ checked (term_of p) → q ≡ Refused z → q ≡ checked (ready s w o)
+    pub ready_term : {q : Outcome} {z : Reason} → q ≡ checked (term_of p) → q ≡ Err z → q ≡ checked (ready s w o)
     unfolding ready
     ready_term e d = let h = checked_refused (term_of p) (sym e ∙ d) in rw (opens, h) d
 
@@ -110,7 +106,7 @@ pub work_says : {pack workspace after out filled : List ℕ} {places : Places} {
 work_says {pack} {workspace} {places = places} d e t q h l g = g.says (work_context pack workspace places d.pack e h l) (work_stands d.pack d.term _ q t)
 
 -- What is written, where it has room.
-pub write_done : {v output after : List ℕ} {r : Stored} → Stores v output after 0 r → length v ≤ length output → after ≡ output_after output (value v)
+pub write_done : {v output after : List ℕ} {r : Option ℕ} → Stores v output after 0 r → length v ≤ length output → after ≡ output_after output (value v)
 unfolding spliced
 write_done {v} {output} {after} {r} s h =
     let z : 0 + length v ≡ length v = omega arith in
@@ -121,21 +117,21 @@ short_take n m v h = rw (length-take n v) (omega arith)
 
 -- What is delivered where it is refused, and where it is not.
 module _ (o : Result Translation) (bytes rest buffer : List ℕ) {w : Evaluated} (says : Says translations o bytes rest buffer w) where
-  pub deliver_refused : (output : List ℕ) {z : Reason} {q : Outcome} → w ≡ Evaluateds.Refused z → q ≡ Refused z → (q ≡ written (file_of o)) × (output ≡ output_after output (file_of o))
+  pub deliver_refused : (output : List ℕ) {z : Reason} {q : Outcome} → w ≡ Err z → q ≡ Err z → (q ≡ written (file_of o)) × (output ≡ output_after output (file_of o))
   deliver_refused output e d =
       let h = subst (Says translations o bytes rest buffer) e says in
       (d ∙ sym (ap (λ (x : Result Translation). written (file_of x)) h), sym (ap (λ (x : Result Translation). output_after output (file_of x)) h))
 
-  pub deliver_left : {n end : ℕ} → w ≡ Evaluateds.To n end → Left translations o buffer n
+  pub deliver_left : {n end : ℕ} → w ≡ Ok (record { value = n; term = end }) → Left translations o buffer n
   deliver_left e = (subst (Says translations o bytes rest buffer) e says).0
 
-  pub deliver_done : (output after : List ℕ) {n end : ℕ} {q : Outcome} → w ≡ Evaluateds.To n end → (q ≡ Accepted n) × (after ≡ output_after output (value (take n buffer)))
+  pub deliver_done : (output after : List ℕ) {n end : ℕ} {q : Outcome} → w ≡ Ok (record { value = n; term = end }) → (q ≡ Ok n) × (after ≡ output_after output (value (take n buffer)))
       → (q ≡ written (file_of o)) × (after ≡ output_after output (file_of o))
   deliver_done output after {n} e d =
       let h = deliver_left e in
       let l : length (take n buffer) ≡ n = length-take-le n buffer h.inside in
       let f : file_of o ≡ value (take n buffer) = ap file_of h.comes ∙ ap value (sym h.bytes) in (
-        d.0 ∙ (ap Accepted (sym l) ∙ sym (ap written f)),
+        d.0 ∙ (ap Ok (sym l) ∙ sym (ap written f)),
         d.1 ∙ sym (ap (output_after output) f),
       )
 
@@ -144,13 +140,13 @@ module _ (s w o : List ℕ) where
   abbrev pub Is : Outcome → List ℕ → List ℕ → Type 0
   Is q output workspace = (q ≡ (reduce s w o).outcome) × (output ≡ (reduce s w o).output) × (workspace ≡ (reduce s w o).workspace)
 
-  pub reduce_refused : {q : Outcome} {z : Reason} → q ≡ checked (ready s (length w) (length o)) → q ≡ Refused z → Is q o w
+  pub reduce_refused : {q : Outcome} {z : Reason} → q ≡ checked (ready s (length w) (length o)) → q ≡ Err z → Is q o w
   unfolding reduce reduce_bytes
   reduce_refused e d =
       let h = checked_refused (ready s (length w) (length o)) (sym e ∙ d) in
       (d ∙ sym (ap (λ (r : Result Ready). written (r >>= work)) h), sym (ap (λ (r : Result Ready). output_after o (r >>= work)) h), sym (ap (workspace_after w) h))
 
-  pub reduce_ready : {q : Outcome} {n : ℕ} → q ≡ checked (ready s (length w) (length o)) → q ≡ Accepted n
+  pub reduce_ready : {q : Outcome} {n : ℕ} → q ≡ checked (ready s (length w) (length o)) → q ≡ Ok n
       → ((d : Ready) × (pack_of s ≡ value d.pack) × (term_of d.pack ≡ value d.term)) × (65536 ≤ length w) × (4096 ≤ length o)
   reduce_ready e d =
       let r = checked_value (ready s (length w) (length o)) e d in
@@ -158,7 +154,7 @@ module _ (s w o : List ℕ) where
       let l = or_false (ltb (length w) 65536) (ltb (length o) 4096) v.2 in
       ((r.0, v.0, v.1), ltb-false (length w) 65536 l.0, ltb-false (length o) 4096 l.1)
 
-  pub reduce_done : (filled : List ℕ) (x : Evaluated) {q y : Outcome} {n : ℕ} {output cleared : List ℕ} → q ≡ checked (ready s (length w) (length o)) → q ≡ Accepted n
+  pub reduce_done : (filled : List ℕ) (x : Evaluated) {q y : Outcome} {n : ℕ} {output cleared : List ℕ} → q ≡ checked (ready s (length w) (length o)) → q ≡ Ok n
       → ((d : Ready) → pack_of s ≡ value d.pack → term_of d.pack ≡ value d.term → Says translations (evaluate (constants_of d.pack) nothing_bound d.term) s [] filled x)
       → ((v : Result Translation) (bytes rest : List ℕ) → Says translations v bytes rest filled x → (y ≡ written (file_of v)) × (output ≡ output_after o (file_of v)))
       → (m : ℕ) → m ≡ length w → cleared ≡ replicate m 0 → Is y output cleared

@@ -1,7 +1,6 @@
 -- The operation reduce (paper 01, "Operations and their refusals").
 use Rattle.std.specs.Prelude.{ℕ, ◌||◌, List, length, replicate, ltb}
-use Rattle.outcome.specs.Outcome.{Result, value, refused, refuse_if, ◌>>=◌, written, output_after}
-use Rattle.outcome.specs.declared.Outcome.{Outcome}
+use Rattle.outcome.specs.Outcome.{Result, value, refused, refuse_if, ◌>>=◌, written, output_after, Outcome}
 use Rattle.outcome.specs.declared.Reason.TheVariants.{BuffersTooShort}
 use Rattle.format_translation.specs.TranslationFile.{encode_translation}
 use Rattle.format_pack.specs.Terms.{Term, translations}

@@ -1,7 +1,6 @@
 // The operation reduce (paper 01, "Operations and their refusals").
-ghost use Rattle.std.specs.Prelude.{◌≡◌, List, [], ℕ, ◌≤◌, length, take};
+ghost use Rattle.std.specs.Prelude.{◌≡◌, List, [], ℕ, ◌≤◌, length, take, Ok};
 ghost use Rattle.outcome.specs.Outcome.{Result, value, checked, written, output_after};
-ghost use Rattle.outcome.specs.declared.Outcome.TheVariants.{Accepted};
 ghost use Rattle.format_translation.specs.Translation.{Translation};
 ghost use Rattle.format_pack.specs.Terms.{translations};
 ghost use Rattle.format_pack.specs.Pack.{pack_of, term_of};
@@ -16,7 +15,7 @@ use format_pack::check::check_pack;
 use format_pack::parts::term_start;
 use format_pack::term::{TERM_LEVELS, check_term};
 use format_translation::parts::TRANSLATION_LIMIT;
-use outcome::{Answer, Outcome, Reason, accept, refuse};
+use outcome::{Answer, Outcome, Reason};
 use reduce_signs::evaluated::Evaluated;
 use reduce_signs::places::nothing;
 use reduce_terms::terms::translation_term;
@@ -28,26 +27,18 @@ pub const WORKSPACE: usize = 65536;
 const OUTPUT: usize = TRANSLATION_LIMIT;
 
 // 1 to 4, 8 and 9: the pack, its term, and the lengths of workspace and output.
-fn ready(pack: &[u8], workspace: usize, output: usize) -> Answer
-    ensures { result.outcome ≡ checked (Operations.ready pack.now workspace output) }
+fn ready(pack: &[u8], workspace: usize, output: usize) -> Outcome
+    ensures { result ≡ checked (Operations.ready pack.now workspace output) }
 {
-    let opened = check_pack(pack);
-    let outcome = opened.outcome;
-    let Outcome::Accepted(_) = outcome else {
-        return opened;
-    };
-    let read = check_term(pack);
-    let outcome = read.outcome;
-    let Outcome::Accepted(_) = outcome else {
-        return read;
-    };
+    check_pack(pack)?;
+    check_term(pack)?;
     if workspace < WORKSPACE {
-        return refuse(Reason::BuffersTooShort);
+        return Err(Reason::BuffersTooShort);
     }
     if output < OUTPUT {
-        return refuse(Reason::BuffersTooShort);
+        return Err(Reason::BuffersTooShort);
     }
-    accept(0)
+    Ok(0)
 }
 
 // The term of a pack, evaluated over the workspace into the buffer.
@@ -63,24 +54,36 @@ fn work(pack: &[u8], workspace: &mut [u8], buffer: &mut [u8]) -> Evaluated
 }
 
 // Writes the first n bytes to the output, and accepts that length.
-fn write(bytes: &[u8], n: usize, output: &mut [u8]) -> Answer
+fn write(bytes: &[u8], n: usize, output: &mut [u8]) -> Outcome
     requires { (n ≤ length bytes.now) × (n ≤ length output.old) }
-    ensures { (result.outcome ≡ Accepted n) × (output.new ≡ output_after output.old (value (take n bytes.now))) }
+    ensures { (result ≡ Ok n) × (output.new ≡ output_after output.old (value (take n bytes.now))) }
 {
     put(bytes, 0, n, output, 0);
-    accept(n)
+    Ok(n)
 }
 
 // The value, written to the output, which changes only where it is accepted.
-fn deliver(evaluated: Evaluated, buffer: &[u8], output: &mut [u8]) -> Answer
+fn deliver(evaluated: Evaluated, buffer: &[u8], output: &mut [u8]) -> Outcome
     requires { ((o : Result Translation) × ((bytes : List ℕ) × ((rest : List ℕ) × Says translations o bytes rest buffer.now evaluated))) × (4096 ≤ length output.old) }
     ensures { (o : Result Translation) (bytes rest : List ℕ) → Says translations o bytes rest buffer.now evaluated
-        → (result.outcome ≡ written (file_of o)) × (output.new ≡ output_after output.old (file_of o)) }
+        → (result ≡ written (file_of o)) × (output.new ≡ output_after output.old (file_of o)) }
 {
-    match evaluated {
-        Evaluated::Refused(reason) => refuse(reason),
-        Evaluated::To(n, _) => write(buffer, n, output),
-    }
+    let ended = evaluated?;
+    write(buffer, ended.value, output)
+}
+
+// The outcome of reduce.
+fn reduce_ready(pack: &[u8], workspace: &mut [u8], output: &mut [u8]) -> Outcome
+    ensures { (result ≡ (Operations.reduce pack.now workspace.old output.old).outcome)
+        × (output.new ≡ (Operations.reduce pack.now workspace.old output.old).output)
+        × (workspace.new ≡ (Operations.reduce pack.now workspace.old output.old).workspace) }
+{
+    ready(pack, workspace.len(), output.len())?;
+    let mut buffer = [0u8; OUTPUT];
+    let evaluated = work(pack, workspace, &mut buffer);
+    let outcome = deliver(evaluated, &buffer, output);
+    clear(workspace);
+    outcome
 }
 
 // Reduce: the translation that the pack's term comes to, or the refusal.
@@ -89,16 +92,5 @@ pub fn reduce(pack: &[u8], workspace: &mut [u8], output: &mut [u8]) -> Answer
         × (output.new ≡ (Operations.reduce pack.now workspace.old output.old).output)
         × (workspace.new ≡ (Operations.reduce pack.now workspace.old output.old).workspace) }
 {
-    let checked = ready(pack, workspace.len(), output.len());
-    let outcome = checked.outcome;
-    match outcome {
-        Outcome::Refused(_) => checked,
-        Outcome::Accepted(_) => {
-            let mut buffer = [0u8; OUTPUT];
-            let evaluated = work(pack, workspace, &mut buffer);
-            let answer = deliver(evaluated, &buffer, output);
-            clear(workspace);
-            answer
-        }
-    }
+    Answer::from(reduce_ready(pack, workspace, output))
 }

@@ -1,4 +1,5 @@
 -- What is known of languages and translations in their own bytes, and of what is made of them.
+use Rattle.std.specs.Prelude.{Option}
 use Prim.Native.Nat.{ℕ, ◌≤◌, ◌<◌}
 use mathlib.Core.Path.{◌≡◌, refl, sym, ap, subst, ◌∙◌}
 use mathlib.Core.Bool.{Bool, true, false, not, ◌||◌}
@@ -9,8 +10,7 @@ use lib.ListN.{length, length-append}
 use lib.Seq.{slice}
 use lib.Dec.{ltb}
 use borrow.Author.Tests.{le-ltb, lt-ltb}
-use Rattle.outcome.specs.Outcome.{Result, value, refused, refuse_if}
-use Rattle.outcome.specs.declared.Outcome.{Outcome}
+use Rattle.outcome.specs.Outcome.{Result, value, refused, refuse_if, Outcome}
 use Rattle.outcome.specs.declared.Reason.TheVariants.{BrokenField, ValueTooLarge}
 use Rattle.format_fields.specs.Fields.{field, byte_at, encode_field, encode_fields}
 use Rattle.format_fields.specs.Lists.{any, same_numbers}
@@ -28,7 +28,6 @@ use Rattle.format_translation.proofs.Codec.{item_whole, rises_parts, translation
 use Rattle.reduce_operators.specs.Limits.{is_deep, code_is_deep, language_exceeds, translation_exceeds}
 use Rattle.reduce_operators.specs.Inner.Values.{as_written, exact_language, exact_translation, language_bytes, translation_bytes, Gives}
 use Rattle.reduce_operators.proofs.Proper.{Proper, Sound, GoodTranslation, formed_sound}
-use Rattle.format_fields.specs.declared.copy.Stored.{Stored}
 use Rattle.format_fields.specs.Inner.Writing.{Stores}
 use Rattle.reduce_operators.specs.Inner.Assembled.{assembled, limited}
 use Rattle.reduce_operators.proofs.Given.{assembled_is, stored_gives, slice_whole}
@@ -210,7 +209,7 @@ module _ (s : List ℕ) (f : Translation) (e : translation_of s ≡ value f) whe
       }
 
 -- The answer of a copy.
-module _ (o o' : List ℕ) (long : length o' ≡ length o) (x : Stored) (r : Outcome) where
+module _ (o o' : List ℕ) (long : length o' ≡ length o) (x : Option ℕ) (r : Outcome) where
   pub language_copied : (l : Language) (v : List ℕ) → v ≡ encode_language l → 1024 ≤ length o → Stores v o o' 0 x → r ≡ limited 1024 x
       → Gives (language_bytes (value l)) o o' r
   language_copied l v e h w d = language_given l v o o' r e (stored_gives 1024 v o o' h long x r w d)

@@ -1,4 +1,5 @@
 -- What stays of a translation without a language: a law for each return and turn.
+use Rattle.std.specs.Prelude.{Err, None, Option, Some}
 use Prim.Native.Nat.{ℕ, ◌+◌, ◌≤◌, ◌<◌}
 use mathlib.Core.Path.{◌≡◌, refl, sym, ap, ◌∙◌}
 use mathlib.Core.Bool.{Bool, true, false, cond}
@@ -9,9 +10,7 @@ use lib.ListN.{length, take, get_or}
 use lib.Seq.{slice}
 use lib.Dec.{ltb, eqb}
 use borrow.Author.Tests.{leb-true}
-use Rattle.outcome.specs.Outcome.{value, refuse_if}
-use Rattle.outcome.specs.declared.Outcome.{Outcome}
-use Rattle.outcome.specs.declared.Outcome.TheVariants.{Refused}
+use Rattle.outcome.specs.Outcome.{value, refuse_if, Outcome}
 use Rattle.outcome.specs.declared.Reason.TheVariants.{ValueTooLarge}
 use Rattle.format_fields.specs.Lists.{all, keep, is_some, concat_map}
 use Rattle.format_fields.specs.Fields.{byte_at, pair_at, encode_field, encode_fields}
@@ -31,8 +30,6 @@ use Rattle.format_translation.specs.Inner.ItemIndex.{known_at}
 use Rattle.format_translation.proofs.Codec as Codec
 use Rattle.format_translation.proofs.Items.{item_facts, mapping_is, clause_is, numbered_mapping_is, numbered_clause_is, holds_items}
 use Rattle.format_translation.proofs.IndexedItems.{there}
-use Rattle.format_fields.specs.declared.copy.Stored.{Stored}
-use Rattle.format_fields.specs.declared.copy.Stored.TheVariants.{To, Full}
 use Rattle.reduce_operators.specs.Operators.{is_of, language_without, translation_without}
 use Rattle.format_fields.specs.Inner.Writing.{Inside, Stores}
 use Rattle.reduce_merge.specs.Inner.Parts.{Part, piece_at, part_at, parts_from}
@@ -40,7 +37,7 @@ use Rattle.reduce_operators.specs.Inner.Values.{translation_bytes, Gives}
 use Rattle.reduce_operators.proofs.Proper.{GoodTranslation}
 use Rattle.reduce_operators.proofs.SumSound.{proper_without, sound_without}
 use Rattle.reduce_operators.proofs.Encoded.{parts_encode, map_map, item_long}
-use Rattle.reduce_merge.proofs.Turns.{Progress, progress_start}
+use Rattle.reduce_merge.proofs.Writing.{Writing, writing_start}
 use Rattle.reduce_operators.specs.Inner.Assembled.{assembled}
 use Rattle.reduce_operators.specs.Inner.Kept.{written_from, staying_at, Left}
 use Rattle.reduce_operators.proofs.Given.{gives_refused, stored_first}
@@ -94,14 +91,14 @@ module _ (piece : ℕ → List ℕ) (s : List ℕ) (p : ℕ) where
 
 -- keep_items: where it is
 pub record Keeping (s source index o out : List ℕ) (p n : ℕ) : Type 0 where
-  pub progress : (l : Language) → Indexed index source l → Progress (written_from (staying_at l s) s 0) (written_from (staying_at l s) s p) o out n
+  pub writing : (l : Language) → Indexed index source l → Writing (written_from (staying_at l s) s 0) (written_from (staying_at l s) s p) o out 0 n
   pub whole : all (item_whole s) (places_from s p) ≡ true
   pub room : n ≤ length out
   pub long : length out ≡ length o
 
 pub keeping_start : (s source index o : List ℕ) → (b : Body) × (body_of s ≡ some b) → Keeping s source index o o 0 0
 keeping_start s source index o e = record {
-  progress = λ l z. progress_start (written_from (staying_at l s) s 0) o;
+  writing = λ l z. writing_start _ _ o 0 refl;
   whole = (holds_items s e.0 e.1).whole;
   room = omega arith;
   long = refl;
@@ -193,11 +190,11 @@ module _ (s t b : List ℕ) (f : Translation) (m : Language) (w : Left s t b f m
       ∙ kept_bytes (language_without f.source m) f.body encoded
 
   -- keep_parts
-  module _ (d d' : List ℕ) (r : Stored) (k : Stores (written_from (staying_at (language_without f.source m) b) b 0) d d' 0 r) where
-    pub kept_too_long : (o : List ℕ) → r ≡ Full → length d ≡ 4096 → Gives (translation_bytes (value (translation_without f m))) o o (Refused ValueTooLarge)
+  module _ (d d' : List ℕ) (r : Option ℕ) (k : Stores (written_from (staying_at (language_without f.source m) b) b 0) d d' 0 r) where
+    pub kept_too_long : (o : List ℕ) → r ≡ None → length d ≡ 4096 → Gives (translation_bytes (value (translation_without f m))) o o (Err ValueTooLarge)
     kept_too_long o e n = gives_refused _ o o ValueTooLarge (body_over (translation_without f m) (omega (arith, k.full e, ap length kept_is))) refl
 
-    pub kept_given : (n : ℕ) → r ≡ To n → (o o' : List ℕ) (x : Outcome)
+    pub kept_given : (n : ℕ) → r ≡ Some n → (o o' : List ℕ) (x : Outcome)
         → Gives (refuse_if (ltb 4096 (length (assembled s t (take n d')))) ValueTooLarge (value (assembled s t (take n d')))) o o' x
         → Gives (translation_bytes (value (translation_without f m))) o o' x
     unfolding translation_without

@@ -1,17 +1,15 @@
 -- The operators on languages in their own bytes: a law for each return.
+use Rattle.std.specs.Prelude.{Err, Option}
 use Prim.Native.Nat.{ℕ, ◌≤◌}
 use mathlib.Core.Path.{◌≡◌, refl, sym, ap, subst, ◌∙◌}
 use mathlib.Core.Bool.{Bool, true, false}
 use mathlib.Core.List.{List}
 use lib.ListN.{length}
-use Rattle.outcome.specs.Outcome.{value}
-use Rattle.outcome.specs.declared.Outcome.{Outcome}
-use Rattle.outcome.specs.declared.Outcome.TheVariants.{Refused}
+use Rattle.outcome.specs.Outcome.{value, Outcome}
 use Rattle.outcome.specs.declared.Reason.TheVariants.{SumUnfit}
 use Rattle.format_language.specs.Language.{Language}
 use Rattle.format_language.specs.LanguageFile.{encode_language}
 use Rattle.format_language.specs.Inner.Entries.{RisingEntries}
-use Rattle.format_fields.specs.declared.copy.Stored.{Stored}
 use Rattle.reduce_operators.specs.Operators.{languages_fit, language_union, language_sum, language_without}
 use Rattle.format_fields.specs.Inner.Writing.{Stores}
 use Rattle.reduce_merge.specs.Inner.Parts.{Sorted, united, removed, fit_together}
@@ -48,13 +46,13 @@ module _ (a b : List ℕ) (l m : Language) (e : exact_language a ≡ value l) (d
       ap (λ (x : List ℕ). removed 0x11 x b) (language_written a l e)
       ∙ (ap (removed 0x11 (encode_language l)) (language_written b m d) ∙ removed_language l m)
 
-  pub sum_unfit : (fit : Bool) → fit ≡ fit_together a b → fit ≡ false → (o : List ℕ) → Gives (language_bytes (language_sum l m)) o o (Refused SumUnfit)
+  pub sum_unfit : (fit : Bool) → fit ≡ fit_together a b → fit ≡ false → (o : List ℕ) → Gives (language_bytes (language_sum l m)) o o (Err SumUnfit)
   unfolding language_sum
   sum_unfit fit q t o =
       let z : languages_fit l m ≡ false = sym fit_is ∙ (sym q ∙ t) in
       gives_refused (language_bytes (language_sum l m)) o o SumUnfit (rw z refl) refl
 
-  module _ (o o' : List ℕ) (long : length o' ≡ length o) (room : 1024 ≤ length o) (x : Stored) (r : Outcome) (answer : r ≡ limited 1024 x) where
+  module _ (o o' : List ℕ) (long : length o' ≡ length o) (room : 1024 ≤ length o) (x : Option ℕ) (r : Outcome) (answer : r ≡ limited 1024 x) where
     pub sum_given : (fit : Bool) → fit ≡ fit_together a b → fit ≡ true → Stores (united 0x11 a b) o o' 0 x
         → Gives (language_bytes (language_sum l m)) o o' r
     unfolding language_sum

@@ -3,7 +3,6 @@ pub mod Accepted
 pub mod LanguageLaws
 pub mod TranslationLaws
 pub mod Keeping
-pub mod Walking
 pub mod Rewriting
 pub mod SameItem
 pub mod Making

@@ -1,4 +1,5 @@
 -- A translation made of a source, a target and a body: a law for each return.
+use Rattle.std.specs.Prelude.{Err, Ok}
 use Prim.Native.Nat.{ℕ, ◌≤◌, ◌<◌}
 use mathlib.Core.Path.{◌≡◌, refl, sym, ap, ◌∙◌}
 use mathlib.Core.Bool.{true}
@@ -7,9 +8,7 @@ use mathlib.Core.Option.{some}
 use native.Mathlib.Omega.{arith}
 use lib.ListN.{length}
 use lib.Dec.{ltb}
-use Rattle.outcome.specs.Outcome.{Result, value, refused, refuse_if, checked}
-use Rattle.outcome.specs.declared.Outcome.{Outcome}
-use Rattle.outcome.specs.declared.Outcome.TheVariants.{Accepted, Refused}
+use Rattle.outcome.specs.Outcome.{Result, value, refused, refuse_if, checked, Outcome}
 use Rattle.outcome.specs.declared.Reason.{Reason}
 use Rattle.outcome.specs.declared.Reason.TheVariants.{ValueTooLarge}
 use Rattle.format_fields.specs.Fields.{byte_at}
@@ -29,11 +28,11 @@ use Rattle.reduce_operators.proofs.Given.{gives_refused}
 use Rattle.reduce_operators.proofs.Accepted.{slice_bytes, exact_good, language_entries, language_short, language_written, assembled_given}
 
 -- What an outcome of a check says.
-refused_is : {A : Type 0} (x : Result A) (r : Reason) → checked x ≡ Refused r → x ≡ refused r
+refused_is : {A : Type 0} (x : Result A) (r : Reason) → checked x ≡ Err r → x ≡ refused r
 refused_is (value a) r e = let z : ◌≡◌ {A = ℕ} 0 1 = cc in absurd (omega arith)
 refused_is (refused q) r e = let z : q ≡ r = cc in ap refused z
 
-value_is : {A : Type 0} (x : Result A) (n : ℕ) → checked x ≡ Accepted n → (a : A) × (x ≡ value a)
+value_is : {A : Type 0} (x : Result A) (n : ℕ) → checked x ≡ Ok n → (a : A) × (x ≡ value a)
 value_is (value a) n e = (a, refl)
 value_is (refused q) n e = let z : ◌≡◌ {A = ℕ} 0 1 = cc in absurd (omega arith)
 
@@ -57,13 +56,13 @@ module _ (s t x : List ℕ) (l m : Language) (b : Body) (es : exact_language s �
   made_rises h = rw ((exact_good s l es).rises, (exact_good t m et).rises, h)
 
   module _ (o : Outcome) (eo : o ≡ checked (well_formed (made_of l m b))) where
-    pub make_refused : (r : Reason) → o ≡ Refused r → (out : List ℕ) → Gives (translation_bytes (well_formed (made_of l m b))) out out (Refused r)
+    pub make_refused : (r : Reason) → o ≡ Err r → (out : List ℕ) → Gives (translation_bytes (well_formed (made_of l m b))) out out (Err r)
     make_refused r h out =
         let z : well_formed (made_of l m b) ≡ refused r = refused_is (well_formed (made_of l m b)) r (sym eo ∙ h) in
         gives_refused _ out out r (rw z refl) refl
 
     pub make_given : rising item_key b ≡ true → ((i : ℕ) → byte_at x i < 256)
-        → (n : ℕ) → o ≡ Accepted n → (out out' : List ℕ) (r : Outcome)
+        → (n : ℕ) → o ≡ Ok n → (out out' : List ℕ) (r : Outcome)
         → Gives (refuse_if (ltb 4096 (length (assembled s t x))) ValueTooLarge (value (assembled s t x))) out out' r
         → Gives (translation_bytes (well_formed (made_of l m b))) out out' r
     make_given rises bx n h out out' r g =

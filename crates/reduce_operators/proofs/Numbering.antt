@@ -7,7 +7,7 @@ use mathlib.Core.Option.{some}
 use native.Mathlib.Omega.{arith}
 use lib.ListN.{length, get_or}
 use lib.Dec.{ltb, eqb}
-use borrow.Author.Tests.{lt-ltb, le-ltb, ltb-true, eq-eqb, ne_eqb}
+use borrow.Author.Tests.{lt-ltb, ltb-true, ne_eqb}
 use Rattle.format_fields.specs.Lists.{all, is_some}
 use Rattle.format_fields.specs.Inner.Places.{field_end, places_from, order_at}
 use Rattle.format_fields.proofs.Truth.{Mem, false_true, and_both, both_and, all_mem, mem_all, same_truth, some_is, is_some_lem}
@@ -22,7 +22,7 @@ use Rattle.format_translation.proofs.Items.{item_facts, clause_is, numbered_clau
 use Rattle.format_translation.proofs.Lookup.{mapping_mem, mem_mapping}
 use Rattle.format_translation.proofs.Uses.{Front, Put}
 use Rattle.reduce_operators.specs.Operators.{number_kept, numbers_agree, low_number, numbers_low}
-use Rattle.reduce_operators.specs.Inner.Numbers.{mapping_below, number_in, key_known}
+use Rattle.reduce_operators.specs.Inner.Numbers.{mapping_below, number_in, Tests}
 use Rattle.reduce_operators.proofs.Proper.{Sound}
 
 -- A walk over the mappings of a body with a test that every clause passes.
@@ -78,43 +78,27 @@ module _ (test : Item → Bool) (clauses : (r p j : ℕ) (c : List ℕ) → test
       unfolding all
       passing_next t e ee = rw ee (rw t at next)
 
+-- The mapping at p, by its key.
+key_is : (s : List ℕ) (p key : ℕ) (m : Put s p) → key ≡ order_at 0x22 s p → key ≡ m.source * 256 + m.number
+key_is s p key m ek = ek ∙ m.key
+
+pub key_may : (pre : ℕ → Type 0) → ((k j : ℕ) → k < 32 → j < 256 → pre (k * 256 + j)) → (s : List ℕ) (p key : ℕ) → Put s p → key ≡ order_at 0x22 s p → pre key
+key_may pre may s p key m ek = rw (key_is s p key m ek) (may m.source m.number m.kind m.byte)
+
+pub mapping_tested : (post : ℕ → Bool → Type 0) (passes : Item → Bool) → Tests post passes → (s : List ℕ) (p key : ℕ) → Put s p → key ≡ order_at 0x22 s p → (r : Bool)
+    → post key r → passes (item_at s p) ≡ r
+mapping_tested post passes tests s p key m ek r h =
+    ap passes m.is ∙ sym (tests.mappings m.source m.number _ r m.kind m.byte (rw (key_is s p key m ek) at h))
+
 -- numbers_below
-pub below_clauses : (limit r p j : ℕ) (c : List ℕ) → mapping_below limit (clause r p j c) ≡ true
+pub below_tested : (limit : ℕ) (post : ℕ → Bool → Type 0) → ((key : ℕ) (r : Bool) → post key r → r ≡ ltb (key % 256) limit) → Tests post (mapping_below limit)
 unfolding mapping_below
-below_clauses limit r p j c = refl
-
-module _ (s : List ℕ) (p limit key : ℕ) (m : Put s p) (ek : key ≡ order_at 0x22 s p) where
-  number_is : key % 256 ≡ m.number
-  number_is =
-      let q : key ≡ m.source * 256 + m.number = ek ∙ m.key in
-      let b = m.byte in
-      omega arith
-
-  below_is : mapping_below limit (item_at s p) ≡ ltb (key % 256) limit
-  unfolding mapping_below
-  below_is = ap (mapping_below limit) m.is ∙ ap (λ (x : ℕ). ltb x limit) (sym number_is)
-
-  pub not_below : limit ≤ key % 256 → mapping_below limit (item_at s p) ≡ false
-  not_below h = below_is ∙ le-ltb (key % 256) limit h
-
-  pub is_below : key % 256 < limit → mapping_below limit (item_at s p) ≡ true
-  is_below h = below_is ∙ lt-ltb (key % 256) limit h
-
--- number_known
-module _ (uses : List ℕ) (key : ℕ) where
-  pub kind_unknown : get_or uses (key - key % 256) 0 ≡ 0 → true ≡ key_known uses key
-  unfolding key_known
-  kind_unknown h = rw (eq-eqb (get_or uses (key - key % 256) 0) 0 h)
-
-  pub kind_known : (get_or uses (key - key % 256) 0 ≡ 0 → ⊥) → not (eqb (get_or uses key 0) 0) ≡ key_known uses key
-  unfolding key_known
-  kind_known h = rw (ne_eqb (get_or uses (key - key % 256) 0) 0 h)
+below_tested limit post h = record {
+  mappings = λ s j t r k l q. let z : (s * 256 + j) % 256 ≡ j = omega arith in h _ r q ∙ ap (λ (x : ℕ). ltb x limit) z;
+  clauses = λ r p j c. refl;
+}
 
 -- numbers_known
-pub in_clauses : (b : Body) (r p j : ℕ) (c : List ℕ) → number_in b (clause r p j c) ≡ true
-unfolding number_in
-in_clauses b r p j c = refl
-
 not_zero : (x : ℕ) → is_some (kind_before x) ≡ not (eqb x 0)
 not_zero zero = refl
 not_zero (suc x) = rw (ne_eqb (suc x) 0 (λ h. omega arith))
@@ -130,25 +114,15 @@ module _ (uses : List ℕ) (c : Body) (w : Mapped uses c) where
       let e : kind_before (get_or uses (k * 256 + j) 0) ≡ mapping_of c k j = rw (lt-ltb j 256 l) at (w.is k j h l) in
       ap is_some (sym e) ∙ not_zero (get_or uses (k * 256 + j) 0)
 
-  -- The mapping at p, by its key.
-  pub known_is : (s : List ℕ) (p key : ℕ) (m : Put s p) → key ≡ order_at 0x22 s p → (x : Bool) → x ≡ key_known uses key → number_in c (item_at s p) ≡ x
-  unfolding number_in key_known
-  known_is s p key m ek x ex =
-      let k = m.source in
-      let j = m.number in
-      let q : key ≡ k * 256 + j = ek ∙ m.key in
-      let b = m.byte in
-      let z : key - key % 256 ≡ k * 256 + 0 = omega arith in
-      ap (number_in c) m.is
-      ∙ (rw (in_table k 0 m.kind (omega arith), in_table k j m.kind b, twice_not (eqb (get_or uses (k * 256 + 0) 0) 0), ← z, ← q) (sym ex))
-
--- What the key of a mapping asks of the table.
-pub key_inside : (s : List ℕ) (p key room : ℕ) → Put s p → key ≡ order_at 0x22 s p → room ≡ 8192 → key < room
-key_inside s p key room m ek l =
-    let q : key ≡ m.source * 256 + m.number = ek ∙ m.key in
-    let b = m.byte in
-    let k = m.kind in
-    omega arith
+  pub known_tested : (post : ℕ → Bool → Type 0) → ((key : ℕ) (r : Bool) → post key r → r ≡ (eqb (get_or uses (key - key % 256) 0) 0 || not (eqb (get_or uses key 0) 0)))
+      → Tests post (number_in c)
+  unfolding number_in
+  known_tested post h = record {
+    mappings = λ k j t r i l q.
+        let z : k * 256 + j - (k * 256 + j) % 256 ≡ k * 256 + 0 = omega arith in
+        h _ r q ∙ rw (z, in_table k 0 i (omega arith), in_table k j i l, twice_not (eqb (get_or uses (k * 256 + 0) 0) 0)) refl;
+    clauses = λ r p j d. refl;
+  }
 
 -- numbers_kept: number 0 only
 or_not : (x : Bool) → (not x || x) ≡ true
@@ -165,13 +139,6 @@ zero_kept b c x ex h = sym (mem_all (number_in c) b each)
         let z : j ≡ 0 = omega (arith, ltb-true j 1 l) in
         rw z (or_not (is_some (mapping_of c s 0)))
     each (clause r p j d) m = refl
-
--- numbers_agree
-pub first_unkept : (x : Bool) (a b : Bool) → x ≡ a → x ≡ false → false ≡ (a && b)
-first_unkept x a b e h = rw (← e, h)
-
-pub both_kept : (x y : Bool) (a b : Bool) → x ≡ a → x ≡ true → y ≡ b → y ≡ (a && b)
-both_kept x y a b e h d = rw (← e, h) d
 
 -- In a sound translation exactly the kinds of the source are mapped by 0.
 module _ (g : Translation) (s : Sound g) where

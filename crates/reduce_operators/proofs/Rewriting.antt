@@ -1,4 +1,5 @@
 -- The entries of a file as a value writes them: a law for each return.
+use Rattle.std.specs.Prelude.{Option}
 use Prim.Native.Nat.{ℕ, suc, ◌+◌, ◌*◌, ◌-◌, ◌/◌, ◌%◌, ◌≤◌, ◌<◌}
 use mathlib.Core.Path.{◌≡◌, refl, sym, ap, subst, ◌∙◌}
 use mathlib.Core.Bool.{true, false, ◌&&◌}
@@ -13,7 +14,6 @@ use Rattle.format_fields.specs.Lists.{concat_map}
 use Rattle.format_fields.specs.Fields.{field, byte_at, pair_at, encode_field, encode_fields}
 use Rattle.format_fields.specs.Inner.Places.{field_end, is_whole, contents_at, field_at, places}
 use Rattle.format_fields.specs.Inner.Writing.{Stores}
-use Rattle.format_fields.specs.declared.copy.Stored.{Stored}
 use Rattle.format_fields.proofs.Truth.{by_test, and_both}
 use Rattle.format_fields.proofs.Codec.{Bytes, bytes_from, each_front}
 use Rattle.format_fields.proofs.Lists.{part_is}
@@ -101,7 +101,7 @@ module _ (s : List ℕ) (p : ℕ) (w : entry_whole s p ≡ true) where
         let m : p + 3 + n - p ≡ suc (suc (suc n)) = omega arith in
         slice_is s p (p + 3 + n) (omega arith) f ∙ (rw (m, d, e, h, k) refl)
 
-    module _ (o o' : List ℕ) (n : ℕ) (x : Stored) where
+    module _ (o o' : List ℕ) (n : ℕ) (x : Option ℕ) where
       pub entry_stored : spare_step s p ≡ false → (e : ℕ) → e ≡ field_end s p → Stores (slice p e s) o o' n x → Stores (entry_bytes s p) o o' n x
       unfolding entry_bytes
       entry_stored h e ee k =

@@ -1,4 +1,5 @@
 -- The items of an identity in bytes: a law for each return and turn.
+use Rattle.std.specs.Prelude.{Err, None, Option, Some}
 use Prim.Native.Nat.{ℕ, suc, ◌+◌, ◌-◌, ◌*◌, ◌≤◌, ◌<◌}
 use mathlib.Core.Path.{◌≡◌, refl, sym, ap, subst, ◌∙◌}
 use mathlib.Core.Logic.{⊎_elim}
@@ -6,13 +7,11 @@ use mathlib.Core.Bool.{Bool, true, false, cond}
 use mathlib.Core.List.{List, [], ◌∷◌, ◌++◌, map}
 use mathlib.Core.Option.{some}
 use native.Mathlib.Omega.{arith}
-use lib.ListN.{length, get_or, take, length-append}
+use lib.ListN.{length, get_or, take}
 use lib.Seq.{slice, length-slice}
 use lib.Dec.{ltb}
 use borrow.Author.Tests.{eq-eqb}
-use Rattle.outcome.specs.Outcome.{value, refuse_if}
-use Rattle.outcome.specs.declared.Outcome.{Outcome}
-use Rattle.outcome.specs.declared.Outcome.TheVariants.{Refused}
+use Rattle.outcome.specs.Outcome.{value, refuse_if, Outcome}
 use Rattle.outcome.specs.declared.Reason.TheVariants.{ValueTooLarge}
 use Rattle.format_fields.specs.Lists.{keep, concat_map, count_up}
 use Rattle.format_fields.specs.Fields.{byte_at, encode_field, encode_fields}
@@ -27,15 +26,13 @@ use Rattle.tree_reader.specs.Syntax.{write}
 use Rattle.format_translation.specs.Translation.{mapping, Body}
 use Rattle.format_translation.specs.TranslationFile.{item_field}
 use Rattle.format_translation.specs.WellFormed.{kinds}
-use Rattle.format_fields.specs.declared.copy.Stored.{Stored}
-use Rattle.format_fields.specs.declared.copy.Stored.TheVariants.{To, Full}
 use Rattle.reduce_operators.specs.Operators.{arguments_from, identity_clause, identity_of}
 use Rattle.format_fields.specs.Inner.Writing.{Stores}
 use Rattle.reduce_operators.specs.Inner.Values.{exact_language, translation_bytes, Gives}
 use Rattle.reduce_operators.proofs.Proper.{good_proper}
 use Rattle.reduce_operators.proofs.IdentitySound.{sound_identity}
-use Rattle.format_fields.proofs.Splices.{put_unwanted, both_then}
-use Rattle.reduce_merge.proofs.Turns.{Progress, progress_start}
+use Rattle.format_fields.proofs.Splices.{put_unwanted}
+use Rattle.reduce_merge.proofs.Writing.{Writing}
 use Rattle.reduce_operators.specs.Inner.Assembled.{assembled}
 use Rattle.reduce_operators.specs.Inner.Kept.{written_from}
 use Rattle.reduce_operators.specs.Inner.SameItems.{kind_item, Marks, kind_items, clause_item}
@@ -43,25 +40,17 @@ use Rattle.reduce_operators.proofs.Given.{gives_refused, stored_first}
 use Rattle.reduce_operators.proofs.Accepted.{exact_good, language_entries, language_written, assembled_given, body_over}
 
 -- put_kind
-pub kind_stored : (l : Language) (k : ℕ) (there : Bool) → there ≡ is_in l k → (o o' : List ℕ) (n : ℕ) (x : Stored)
+pub kind_stored : (l : Language) (k : ℕ) (there : Bool) → there ≡ is_in l k → (o o' : List ℕ) (n : ℕ) (x : Option ℕ)
     → Stores (cond there (0x22 ∷ 0 ∷ 2 ∷ k ∷ k ∷ []) []) o o' n x → Stores (kind_item l k) o o' n x
 unfolding kind_item encode_field item_field
 kind_stored l k there e o o' n x w = rw (← e) w
 
 -- put_marked: where it is
 pub record Kinding (marked : List Bool) (o out : List ℕ) (n k : ℕ) : Type 0 where
-  pub progress : (l : Language) → Marks marked l → Progress (kind_items l 0) (kind_items l k) o out n
+  pub writing : (l : Language) → Marks marked l → Writing (kind_items l 0) (kind_items l k) o out 0 n
   pub room : n ≤ length out
   pub long : length out ≡ length o
   pub inside : k ≤ 32
-
-pub kinding_start : (marked : List Bool) (o : List ℕ) → Kinding marked o o 0 0
-kinding_start marked o = record {
-  progress = λ l e. progress_start (kind_items l 0) o;
-  room = omega arith;
-  long = refl;
-  inside = omega arith;
-}
 
 pub marked_at : (marked : List Bool) (l : Language) (k i : ℕ) → Marks marked l → k < 32 → i ≡ k → get_or marked i false ≡ is_in l k
 marked_at marked l k i e h q = rw q (e k h)
@@ -96,12 +85,12 @@ same_item_lem r q x (a ∷ b ∷ c ∷ d ∷ f ∷ g ∷ i ∷ j ∷ []) h e = r
 same_item_lem r q x (a ∷ b ∷ c ∷ d ∷ f ∷ g ∷ i ∷ j ∷ k ∷ ks) h e = absurd (omega arith)
 
 module _ (s : List ℕ) (p tag : ℕ) (et : tag ≡ byte_at s p) where
-  pub class_stored : tag ≡ 0x11 → (o : List ℕ) (n : ℕ) → n ≤ length o → Stores (clause_item s p) o o n (To n)
+  pub class_stored : tag ≡ 0x11 → (o : List ℕ) (n : ℕ) → n ≤ length o → Stores (clause_item s p) o o n (Some n)
   unfolding clause_item entry_at identity_clause encode_fields concat_map
   class_stored h o n room =
       let z : entry_at s p ≡ class (byte_at s (p + 3)) (class_range s p) = cc (eq-eqb tag 0x11 h) in
       let y : [] ≡ clause_item s p = sym (ap (λ (a : Entry). encode_fields (map item_field (identity_clause a))) z) in
-      subst (λ (v : List ℕ). Stores v o o n (To n)) y (put_unwanted false [] o n refl room)
+      subst (λ (v : List ℕ). Stores v o o n (Some n)) y (put_unwanted false [] o n refl room)
 
   module _ (other : tag ≡ 0x11 → ⊥) (w : entry_whole s p ≡ true) where
     production_there : IsProduction s p
@@ -117,7 +106,7 @@ module _ (s : List ℕ) (p tag : ℕ) (et : tag ≡ byte_at s p) where
         (omega arith, omega arith, omega arith)
 
     pub production_stored : (e : ℕ) → e ≡ field_end s p → (x r q : ℕ) → x ≡ 2 * (e - p - 5) → r ≡ byte_at s (p + 3) → q ≡ byte_at s (p + 4)
-        → (o o' : List ℕ) (n : ℕ) (y : Stored) → Stores (same_item x r q) o o' n y → Stores (clause_item s p) o o' n y
+        → (o o' : List ℕ) (n : ℕ) (y : Option ℕ) → Stores (same_item x r q) o o' n y → Stores (clause_item s p) o o' n y
     unfolding clause_item
     production_stored e ee x r q ex er eq o o' n y k =
         let b = production_size e ee in
@@ -164,31 +153,18 @@ same_bytes s l e =
     clauses_bytes s (places s) ∙ ap (λ (m : Language). encode_fields (map item_field (concat_map identity_clause m))) (holds_entries s l e).entries in
     rw (kinds_bytes l (count_up 32 0), a) (sym (items_append (map (λ k. mapping k 0 k) (keep (is_in l) (count_up 32 0))) (concat_map identity_clause l)))
 
--- identity
-module _ (s : List ℕ) (l : Language) (e : exact_language s ≡ value l) where
-  pub identity_over : (o : List ℕ) → 4096 < length (kind_items l 0 ++ written_from (clause_item s) s 0) → Gives (translation_bytes (value (identity_of l))) o o (Refused ValueTooLarge)
-  identity_over o h = gives_refused _ o o ValueTooLarge (body_over (identity_of l) (omega (arith, ap length (same_bytes s l (language_entries s l e))))) refl
+-- identity: its items were put in front of d
+module _ (s : List ℕ) (l : Language) (e : exact_language s ≡ value l) (d d' : List ℕ) (x : Option ℕ)
+    (w : Stores (kind_items l 0 ++ written_from (clause_item s) s 0) d d' 0 x) where
+  pub items_over : x ≡ None → length d ≡ 4096 → (o : List ℕ) → Gives (translation_bytes (value (identity_of l))) o o (Err ValueTooLarge)
+  items_over h n o = gives_refused _ o o ValueTooLarge (body_over (identity_of l) (omega (arith, w.full h, ap length (same_bytes s l (language_entries s l e))))) refl
 
-  -- the mappings did not fit
-  pub kinds_over : (o d d' : List ℕ) (x : Stored) → Stores (kind_items l 0) d d' 0 x → x ≡ Full → length d ≡ 4096
-      → Gives (translation_bytes (value (identity_of l))) o o (Refused ValueTooLarge)
-  kinds_over o d d' x w f n = identity_over o (omega (arith, w.full f, length-append (kind_items l 0) (written_from (clause_item s) s 0)))
-
-  -- the clauses behind the mappings
-  module _ (d d₁ d₂ : List ℕ) (n : length d ≡ 4096) (long : length d₁ ≡ length d) (i : ℕ) (x : Stored) (w : Stores (kind_items l 0) d d₁ 0 x) (ex : x ≡ To i)
-      (z : Stored) (u : Stores (written_from (clause_item s) s 0) d₁ d₂ i z) where
-    pub same_stored : Stores (kind_items l 0 ++ written_from (clause_item s) s 0) d d₂ 0 z
-    same_stored = both_then (kind_items l 0) (written_from (clause_item s) s 0) d d₁ 0 x w i ex d₂ z long u
-
-    pub clauses_over : (o : List ℕ) → z ≡ Full → Gives (translation_bytes (value (identity_of l))) o o (Refused ValueTooLarge)
-    clauses_over o f = identity_over o (omega (arith, same_stored.full f))
-
-    pub identity_given : (k : ℕ) → z ≡ To k → (o o' : List ℕ) (r : Outcome)
-        → Gives (refuse_if (ltb 4096 (length (assembled s s (take k d₂)))) ValueTooLarge (value (assembled s s (take k d₂)))) o o' r
-        → Gives (translation_bytes (value (identity_of l))) o o' r
-    unfolding identity_of
-    identity_given k ez o o' r g =
-        let h = exact_good s l e in
-        assembled_given (identity_of l) (sound_identity l (good_proper l h)) h.short h.short s s (take k d₂) o o' r
-        (language_written s l e) (language_written s l e)
-        (stored_first _ d d₂ k z same_stored ez ∙ same_bytes s l (language_entries s l e)) g
+  pub identity_given : (k : ℕ) → x ≡ Some k → (o o' : List ℕ) (r : Outcome)
+      → Gives (refuse_if (ltb 4096 (length (assembled s s (take k d')))) ValueTooLarge (value (assembled s s (take k d')))) o o' r
+      → Gives (translation_bytes (value (identity_of l))) o o' r
+  unfolding identity_of
+  identity_given k ex o o' r g =
+      let h = exact_good s l e in
+      assembled_given (identity_of l) (sound_identity l (good_proper l h)) h.short h.short s s (take k d') o o' r
+      (language_written s l e) (language_written s l e)
+      (stored_first _ d d' k x w ex ∙ same_bytes s l (language_entries s l e)) g

@@ -1,4 +1,5 @@
 -- The operators on translations in their own bytes: a law for each return.
+use Rattle.std.specs.Prelude.{Err, None, Option, Some}
 use Prim.Native.Nat.{ℕ, ◌≤◌}
 use mathlib.Core.Path.{◌≡◌, refl, sym, ap, subst, ◌∙◌}
 use mathlib.Core.Bool.{Bool, true, false, ◌&&◌}
@@ -7,9 +8,7 @@ use mathlib.Core.Option.{some}
 use native.Mathlib.Omega.{arith}
 use lib.ListN.{length, take}
 use lib.Dec.{ltb}
-use Rattle.outcome.specs.Outcome.{value, refuse_if}
-use Rattle.outcome.specs.declared.Outcome.{Outcome}
-use Rattle.outcome.specs.declared.Outcome.TheVariants.{Refused}
+use Rattle.outcome.specs.Outcome.{value, refuse_if, Outcome}
 use Rattle.outcome.specs.declared.Reason.TheVariants.{SumUnfit, ValueTooLarge}
 use Rattle.format_fields.specs.Fields.{encode_fields}
 use Rattle.format_fields.specs.Lists.{all}
@@ -24,8 +23,6 @@ use Rattle.format_translation.specs.Translation.{Body, Translation, item_key, sa
 use Rattle.format_translation.specs.TranslationFile.{item_field, body_of, encode_translation, translation_of}
 use Rattle.format_translation.proofs.Codec.{item_whole, body_encode, rising_grouped}
 use Rattle.format_translation.specs.Inner.Parts.{source_in, target_in, body_in}
-use Rattle.format_fields.specs.declared.copy.Stored.{Stored}
-use Rattle.format_fields.specs.declared.copy.Stored.TheVariants.{To, Full}
 use Rattle.reduce_operators.specs.Operators.{languages_fit, language_without, numbers_agree, translations_fit, translation_union, translation_sum, translation_without}
 use Rattle.format_fields.specs.Inner.Writing.{Stores}
 use Rattle.reduce_merge.specs.Inner.Parts.{Sorted, SortedEntries, united, removed, agrees, fit_together}
@@ -147,22 +144,22 @@ module _ (s t x u v y : List ℕ) (f g : Translation) (p : EncodedParts s t x f)
   body_is = ap (λ (a : List ℕ). united 0x22 a y) p.body ∙ (ap (united 0x22 (body_bytes f.body)) q.body ∙ united_bodies f.body g.body)
 
   -- a part of the union did not fit into n bytes
-  module _ (o d d' : List ℕ) (r : Stored) (full : r ≡ Full) where
-    pub source_too_long : length d ≡ 1024 → Stores (united 0x11 s u) d d' 0 r → Gives (translation_bytes (value (translation_union f g))) o o (Refused ValueTooLarge)
+  module _ (o d d' : List ℕ) (r : Option ℕ) (full : r ≡ None) where
+    pub source_too_long : length d ≡ 1024 → Stores (united 0x11 s u) d d' 0 r → Gives (translation_bytes (value (translation_union f g))) o o (Err ValueTooLarge)
     source_too_long n w = gives_refused _ o o ValueTooLarge (source_over (translation_union f g) (omega (arith, w.full full, ap length source_is))) refl
 
-    pub target_too_long : length d ≡ 1024 → Stores (united 0x11 t v) d d' 0 r → Gives (translation_bytes (value (translation_union f g))) o o (Refused ValueTooLarge)
+    pub target_too_long : length d ≡ 1024 → Stores (united 0x11 t v) d d' 0 r → Gives (translation_bytes (value (translation_union f g))) o o (Err ValueTooLarge)
     target_too_long n w = gives_refused _ o o ValueTooLarge (target_over (translation_union f g) (omega (arith, w.full full, ap length target_is))) refl
 
-    pub body_too_long : length d ≡ 4096 → Stores (united 0x22 x y) d d' 0 r → Gives (translation_bytes (value (translation_union f g))) o o (Refused ValueTooLarge)
+    pub body_too_long : length d ≡ 4096 → Stores (united 0x22 x y) d d' 0 r → Gives (translation_bytes (value (translation_union f g))) o o (Err ValueTooLarge)
     body_too_long n w = gives_refused _ o o ValueTooLarge (body_over (translation_union f g) (omega (arith, w.full full, ap length body_is))) refl
 
   -- the union of the parts, put together
   pub united_given : translations_fit f g ≡ true
-      → (i j k : ℕ) (a a' b b' c c' : List ℕ) (ra rb rc : Stored)
-      → length a ≡ 1024 → Stores (united 0x11 s u) a a' 0 ra → ra ≡ To i
-      → length b ≡ 1024 → Stores (united 0x11 t v) b b' 0 rb → rb ≡ To j
-      → Stores (united 0x22 x y) c c' 0 rc → rc ≡ To k
+      → (i j k : ℕ) (a a' b b' c c' : List ℕ) (ra rb rc : Option ℕ)
+      → length a ≡ 1024 → Stores (united 0x11 s u) a a' 0 ra → ra ≡ Some i
+      → length b ≡ 1024 → Stores (united 0x11 t v) b b' 0 rb → rb ≡ Some j
+      → Stores (united 0x22 x y) c c' 0 rc → rc ≡ Some k
       → (o o' : List ℕ) (r : Outcome)
       → Gives (refuse_if (ltb 4096 (length (assembled (take i a') (take j b') (take k c')))) ValueTooLarge (value (assembled (take i a') (take j b') (take k c')))) o o' r
       → Gives (translation_bytes (value (translation_union f g))) o o' r
@@ -175,7 +172,7 @@ module _ (s t x u v y : List ℕ) (f g : Translation) (p : EncodedParts s t x f)
 
 -- sum_parts
 module _ (f g : Translation) (x : Bool) (e : x ≡ translations_fit f g) where
-  pub unfit_given : x ≡ false → (o : List ℕ) → Gives (translation_bytes (translation_sum f g)) o o (Refused SumUnfit)
+  pub unfit_given : x ≡ false → (o : List ℕ) → Gives (translation_bytes (translation_sum f g)) o o (Err SumUnfit)
   unfolding translation_sum
   unfit_given h o =
       let z : translations_fit f g ≡ false = sym e ∙ h in
@@ -193,12 +190,12 @@ module _ (s t x b : List ℕ) (f : Translation) (m : Language) (p : EncodedParts
       ap (λ (a : List ℕ). removed 0x11 a b) p.source
       ∙ (ap (removed 0x11 (encode_language f.source)) (language_written b m e) ∙ removed_language f.source m)
 
-  module _ (d d' : List ℕ) (r : Stored) (n : length d ≡ 1024) (w : Stores (removed 0x11 s b) d d' 0 r) where
-    pub left_too_long : (o : List ℕ) → r ≡ Full → Gives (translation_bytes (value (translation_without f m))) o o (Refused ValueTooLarge)
+  module _ (d d' : List ℕ) (r : Option ℕ) (n : length d ≡ 1024) (w : Stores (removed 0x11 s b) d d' 0 r) where
+    pub left_too_long : (o : List ℕ) → r ≡ None → Gives (translation_bytes (value (translation_without f m))) o o (Err ValueTooLarge)
     unfolding translation_without
     left_too_long o full = gives_refused _ o o ValueTooLarge (source_over (translation_without f m) (omega (arith, w.full full, ap length left_is))) refl
 
-    pub left_spelt : (i : ℕ) → r ≡ To i → length d' ≡ length d → Left (take i d') t x f m
+    pub left_spelt : (i : ℕ) → r ≡ Some i → length d' ≡ length d → Left (take i d') t x f m
     left_spelt i q l = record {
       source = stored_first _ d d' i r w q ∙ left_is;
       target = p.target;

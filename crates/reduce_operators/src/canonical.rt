@@ -1,18 +1,17 @@
 // A language of a file as a value writes it: a class of step 1 in length 5.
 ghost use Rattle.std.specs.Prelude.{◌≡◌, true, ◌<◌, ◌≤◌, length};
 ghost use Rattle.outcome.specs.Outcome.{value};
-ghost use Rattle.format_fields.specs.Inner.Places.{EndsAt};
 ghost use Rattle.format_fields.specs.Inner.Writing.{Stores};
 ghost use Rattle.format_language.specs.Language.{Language};
 ghost use Rattle.format_language.specs.LanguageFile.{language_of};
-ghost use Rattle.format_language.specs.Inner.Entries.{entry_whole};
 ghost use Rattle.reduce_operators.specs.Inner.Values.{Gives, language_bytes};
 ghost use Rattle.reduce_operators.specs.Inner.Canonical.{spare_step, entry_bytes};
+ghost use Rattle.reduce_operators.specs.Inner.Pieces.{EntryAsks};
 
 use super::limit::limited;
-use super::walk::{Piece, put_pieces};
+use super::walk::put_entries;
 use format_fields::bytes::{byte_at, pair_at};
-use format_fields::copy::{Stored, put, put_both};
+use format_fields::copy::{put, put_both};
 use format_language::check::LANGUAGE_LIMIT;
 use format_language::entries::{CLASS, CLASS_LENGTH, STEPPED_LENGTH};
 use outcome::Outcome;
@@ -25,18 +24,12 @@ fn spare_step(a: &[u8], p: usize) -> bool
     requires { p < length a.now }
     ensures { result ≡ spare_step a.now p }
 {
-    if byte_at(a, p) != CLASS {
-        return false;
-    }
-    if pair_at(a, p + 1) != STEPPED_LENGTH {
-        return false;
-    }
-    pair_at(a, p + 8) == 1
+    byte_at(a, p) == CLASS && pair_at(a, p + 1) == STEPPED_LENGTH && pair_at(a, p + 8) == 1
 }
 
 // The entry at p, which ends at e, as a value writes it.
-pub fn put_entry(a: &[u8], p: usize, e: usize, out: &mut [u8], n: usize) -> Stored
-    requires { (entry_whole a.now p ≡ true) × EndsAt a.now p e × (p < length a.now) × (n ≤ length out.old) }
+fn put_entry(a: &[u8], p: usize, e: usize, out: &mut [u8], n: usize) -> Option<usize>
+    requires { EntryAsks a.now p e out.old n }
     ensures { Stores (entry_bytes a.now p) out.old out.new n result }
 {
     if !spare_step(a, p) {
@@ -52,5 +45,5 @@ pub fn language(a: &[u8], out: &mut [u8]) -> Outcome
     ensures { (l : Language) → language_of a.now ≡ value l
         → Gives (language_bytes (value l)) out.old out.new result }
 {
-    limited(put_pieces(Piece::Entry, a, out, 0), LANGUAGE_LIMIT)
+    limited(put_entries(a, put_entry, out, 0), LANGUAGE_LIMIT)
 }

@@ -1,21 +1,22 @@
 // The identity of a language: each kind to itself, each production to itself.
-ghost use Rattle.std.specs.Prelude.{◌≡◌, true, ◌<◌, ◌≤◌, length};
+ghost use Rattle.std.specs.Prelude.{◌≡◌, ◌++◌, ◌≤◌, length};
 ghost use Rattle.std.proofs.Math.Option.{some};
 ghost use Rattle.outcome.specs.Outcome.{value};
-ghost use Rattle.format_fields.specs.Inner.Places.{EndsAt};
 ghost use Rattle.format_language.specs.Language.{Language, is_in};
 ghost use Rattle.format_language.specs.LanguageFile.{entries_of};
-ghost use Rattle.format_language.specs.Inner.Entries.{entry_whole};
 ghost use Rattle.reduce_operators.specs.Operators.{identity_of};
 ghost use Rattle.format_fields.specs.Inner.Writing.{Stores};
 ghost use Rattle.reduce_operators.specs.Inner.Values.{exact_language, Gives, translation_bytes};
+ghost use Rattle.reduce_operators.specs.Inner.Kept.{written_from};
+ghost use Rattle.reduce_operators.specs.Inner.Pieces.{EntryAsks};
 ghost use Rattle.reduce_operators.specs.Inner.SameItems.{kind_item, Marks, kind_items, clause_item};
 
 use super::assemble::assemble;
-use super::walk::{Piece, put_pieces};
+use super::parts::Parts;
+use super::walk::put_entries;
 use check_wellformed::kinds::mark_entries;
-use format_fields::bytes::{byte_at, to_usize};
-use format_fields::copy::{Stored, put_both, put_if};
+use format_fields::bytes::byte_at;
+use format_fields::copy::{put_both, put_if};
 use format_fields::walk;
 use format_fields::walk::MAPPING;
 use format_language::entries::{CLASS, KINDS};
@@ -25,7 +26,7 @@ use outcome::{Outcome, Reason};
 use tree_reader::node::NAME;
 
 // The mapping of a kind to itself, where the kind is marked.
-fn put_kind(marked: bool, k: u8, out: &mut [u8], n: usize) -> Stored
+fn put_kind(marked: bool, k: u8, out: &mut [u8], n: usize) -> Option<usize>
     requires { n ≤ length out.old }
     ensures { (l : Language) → marked ≡ is_in l k → Stores (kind_item l k) out.old out.new n result }
 {
@@ -34,24 +35,19 @@ fn put_kind(marked: bool, k: u8, out: &mut [u8], n: usize) -> Stored
 }
 
 // The mappings of all kinds that are marked, into the output from its start.
-fn put_marked(marked: &[bool], out: &mut [u8]) -> Stored
+fn put_marked(marked: &[bool], out: &mut [u8]) -> Option<usize>
     requires { (length marked.now ≡ 32) × ((l : Language) × Marks marked.now l) }
     ensures { (l : Language) → Marks marked.now l → Stores (kind_items l 0) out.old out.new 0 result }
 {
     let mut n = 0;
-    let mut k: u8 = 0;
-    while k < KINDS {
-        let Stored::To(m) = put_kind(marked[to_usize(k)], k, out, n) else {
-            return Stored::Full;
-        };
-        n = m;
-        k += 1;
+    for k in 0..KINDS {
+        n = put_kind(marked[usize::from(k)], k, out, n)?;
     }
-    Stored::To(n)
+    Some(n)
 }
 
 // The mappings of all kinds in the language, into the output from its start.
-fn put_kinds(a: &[u8], out: &mut [u8]) -> Stored
+fn put_kinds(a: &[u8], out: &mut [u8]) -> Option<usize>
     requires { (l : Language) × (entries_of a.now ≡ some l) }
     ensures { (l : Language) → entries_of a.now ≡ some l → Stores (kind_items l 0) out.old out.new 0 result }
 {
@@ -61,12 +57,12 @@ fn put_kinds(a: &[u8], out: &mut [u8]) -> Stored
 }
 
 // The clause of the production at p, which ends at e: its name, and its arguments in their order.
-pub fn put_clause(a: &[u8], p: usize, e: usize, out: &mut [u8], n: usize) -> Stored
-    requires { (entry_whole a.now p ≡ true) × EndsAt a.now p e × (p < length a.now) × (n ≤ length out.old) }
+fn put_clause(a: &[u8], p: usize, e: usize, out: &mut [u8], n: usize) -> Option<usize>
+    requires { EntryAsks a.now p e out.old n }
     ensures { Stores (clause_item a.now p) out.old out.new n result }
 {
     if byte_at(a, p) == CLASS {
-        return Stored::To(n);
+        return Some(n);
     }
     let result = byte_at(a, p + 3);
     let name = byte_at(a, p + 4);
@@ -76,6 +72,15 @@ pub fn put_clause(a: &[u8], p: usize, e: usize, out: &mut [u8], n: usize) -> Sto
     put_both(&head, 0, 7, arguments, 0, size, out, n)
 }
 
+// The items of the identity of a language, into the output from its start.
+fn put_items(a: &[u8], out: &mut [u8]) -> Option<usize>
+    requires { (l : Language) × (entries_of a.now ≡ some l) }
+    ensures { (l : Language) → entries_of a.now ≡ some l → Stores (kind_items l 0 ++ written_from (clause_item a.now) a.now 0) out.old out.new 0 result }
+{
+    let n = put_kinds(a, out)?;
+    put_entries(a, put_clause, out, n)
+}
+
 // The identity of a language.
 pub fn identity(a: &[u8], out: &mut [u8]) -> Outcome
     requires { ((l : Language) × (exact_language a.now ≡ value l)) × (4096 ≤ length out.old) }
@@ -83,11 +88,11 @@ pub fn identity(a: &[u8], out: &mut [u8]) -> Outcome
         → Gives (translation_bytes (value (identity_of l))) out.old out.new result }
 {
     let mut body = [0u8; TRANSLATION_LIMIT];
-    let Stored::To(i) = put_kinds(a, &mut body) else {
-        return Outcome::Refused(Reason::ValueTooLarge);
+    let n = put_items(a, &mut body).ok_or(Reason::ValueTooLarge)?;
+    let parts = Parts {
+        source: a,
+        target: a,
+        body: &body[..n],
     };
-    let Stored::To(k) = put_pieces(Piece::Clause, a, &mut body, i) else {
-        return Outcome::Refused(Reason::ValueTooLarge);
-    };
-    assemble(a, a, &body[..k], out)
+    assemble(parts, out)
 }

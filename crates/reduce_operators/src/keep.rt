@@ -13,8 +13,9 @@ ghost use Rattle.reduce_operators.specs.Inner.Values.{Gives, translation_bytes};
 ghost use Rattle.reduce_operators.specs.Inner.Kept.{written_from, staying_at, Left};
 
 use super::assemble::assemble;
+use super::parts::Parts;
 use format_fields::bytes::byte_at;
-use format_fields::copy::{Stored, put_if};
+use format_fields::copy::put_if;
 use format_fields::walk::{MAPPING, field_end};
 use format_translation::body::is_clause;
 use format_translation::index::known_at;
@@ -35,7 +36,7 @@ fn stays(body: &[u8], p: usize, source: &[u8], index: &[u16]) -> bool
 }
 
 // The items of a body that are of the language, into the output from its start.
-fn keep_items(body: &[u8], source: &[u8], index: &[u16], out: &mut [u8]) -> Stored
+fn keep_items(body: &[u8], source: &[u8], index: &[u16], out: &mut [u8]) -> Option<usize>
     requires { ((b : Body) × (body_of body.now ≡ some b)) × ((l : Language) × Indexed index.now source.now l) }
     ensures { (l : Language) → Indexed index.now source.now l
         → Stores (written_from (staying_at l body.now) body.now 0) out.old out.new 0 result }
@@ -44,27 +45,22 @@ fn keep_items(body: &[u8], source: &[u8], index: &[u16], out: &mut [u8]) -> Stor
     let mut n = 0;
     while p < body.len() {
         let e = field_end(body, p);
-        let wanted = stays(body, p, source, index);
-        let Stored::To(m) = put_if(wanted, body, p, e, out, n) else {
-            return Stored::Full;
-        };
-        n = m;
+        n = put_if(stays(body, p, source, index), body, p, e, out, n)?;
         p = e;
     }
-    Stored::To(n)
+    Some(n)
 }
 
 // A translation from what is left of its source: the target stays, and so do the items that are of that source.
-pub fn keep_parts(source: &[u8], target: &[u8], body: &[u8], out: &mut [u8]) -> Outcome
-    requires { ((f : Translation) × (m : Language) × Left source.now target.now body.now f m) × (4096 ≤ length out.old) }
-    ensures { (f : Translation) (m : Language) → Left source.now target.now body.now f m
+pub fn keep_parts(parts: Parts<'_>, out: &mut [u8]) -> Outcome
+    requires { ((f : Translation) × (m : Language) × Left parts.source.now parts.target.now parts.body.now f m) × (4096 ≤ length out.old) }
+    ensures { (f : Translation) (m : Language) → Left parts.entry.source.now parts.entry.target.now parts.entry.body.now f m
         → Gives (translation_bytes (value (translation_without f m))) out.old out.new result }
 {
     let mut index = [0u16; INDEX];
-    build(source, &mut index);
+    build(parts.source, &mut index);
     let mut kept = [0u8; TRANSLATION_LIMIT];
-    let Stored::To(k) = keep_items(body, source, &index, &mut kept) else {
-        return Outcome::Refused(Reason::ValueTooLarge);
-    };
-    assemble(source, target, &kept[..k], out)
+    let n = keep_items(parts.body, parts.source, &index, &mut kept).ok_or(Reason::ValueTooLarge)?;
+    let body = &kept[..n];
+    assemble(Parts { body, ..parts }, out)
 }

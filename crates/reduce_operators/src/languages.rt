@@ -19,7 +19,7 @@ pub fn sum(a: &[u8], b: &[u8], out: &mut [u8]) -> Outcome
         → Gives (language_bytes (language_sum l m)) out.old out.new result }
 {
     if !languages_fit(a, b) {
-        return Outcome::Refused(Reason::SumUnfit);
+        return Err(Reason::SumUnfit);
     }
     limited(merge(a, b, CLASS, out), LANGUAGE_LIMIT)
 }

@@ -10,5 +10,6 @@ pub mod languages;
 pub mod limit;
 pub mod make;
 pub mod numbers;
+pub mod parts;
 pub mod translations;
 pub mod walk;

@@ -10,6 +10,7 @@ ghost use Rattle.format_translation.specs.WellFormed.{well_formed};
 ghost use Rattle.reduce_operators.specs.Inner.Values.{exact_language, Gives, translation_bytes};
 
 use super::assemble::assemble;
+use super::parts::Parts;
 use check_wellformed::check::check_well_formed;
 use outcome::Outcome;
 
@@ -21,10 +22,11 @@ pub fn make(source: &[u8], target: &[u8], body: &[u8], out: &mut [u8]) -> Outcom
         → body_of body.now ≡ some b → rising item_key b ≡ true
         → Gives (translation_bytes (well_formed (record { source = l; target = m; body = b }))) out.old out.new result }
 {
-    let answer = check_well_formed(source, target, body);
-    let outcome = answer.outcome;
-    if let Outcome::Refused(reason) = outcome {
-        return Outcome::Refused(reason);
-    }
-    assemble(source, target, body, out)
+    check_well_formed(source, target, body)?;
+    let parts = Parts {
+        source,
+        target,
+        body,
+    };
+    assemble(parts, out)
 }

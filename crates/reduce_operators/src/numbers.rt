@@ -1,12 +1,12 @@
 // The numbers of mappings: how high they go, and that kinds which two translations share have the same.
-ghost use Rattle.std.specs.Prelude.{◌≡◌, ◌&&◌, ◌<◌, ◌≤◌, length};
+ghost use Rattle.std.specs.Prelude.{◌≡◌, Bool, ◌&&◌, ℕ, ◌+◌, ◌*◌, ◌<◌, ◌≤◌, length};
 ghost use Rattle.std.proofs.Math.Option.{some};
 ghost use Rattle.format_fields.specs.Lists.{all};
 ghost use Rattle.tree_reader.specs.Inner.Positions.{uses_length};
-ghost use Rattle.format_translation.specs.Translation.{Body};
+ghost use Rattle.format_translation.specs.Translation.{Item, Body};
 ghost use Rattle.format_translation.specs.TranslationFile.{body_of};
 ghost use Rattle.format_translation.specs.Inner.ItemIndex.{Mapped};
-ghost use Rattle.reduce_operators.specs.Inner.Numbers.{mapping_below, number_in, key_known};
+ghost use Rattle.reduce_operators.specs.Inner.Numbers.{mapping_below, number_in, Tests};
 
 use format_fields::walk::{MAPPING, NAMES, order_at, whole_end};
 use format_translation::body::is_clause;
@@ -16,51 +16,39 @@ use tree_reader::node::USES;
 // The limit that no number but 0 is below.
 pub const ZERO_ONLY: usize = 1;
 
-// The mappings of a body, which stand in front, are by numbers below the limit.
+// The keys of the mappings of a body, which stand in front, pass a test.
+fn mappings_pass<F: Fn(usize) -> bool>(body: &[u8], test: F) -> bool
+    requires body { (b : Body) × (body_of body.now ≡ some b) }
+    requires may { (s j : ℕ) → s < 32 → j < 256 → F.pre test (s * 256 + j) }
+    ensures { (b : Body) (passes : Item → Bool) → body_of body.now ≡ some b → Tests (F.post test) passes → result ≡ all passes b }
+{
+    let mut p = 0;
+    while p < body.len() {
+        if is_clause(body[p]) {
+            return true;
+        }
+        if !test(order_at(body, p, MAPPING)) {
+            return false;
+        }
+        p = whole_end(body, p);
+    }
+    true
+}
+
+// The mappings of a body are by numbers below the limit.
 pub fn numbers_below(body: &[u8], limit: usize) -> bool
     requires { (b : Body) × (body_of body.now ≡ some b) }
     ensures { (b : Body) → body_of body.now ≡ some b → result ≡ all (mapping_below limit) b }
 {
-    let mut p = 0;
-    while p < body.len() {
-        if is_clause(body[p]) {
-            return true;
-        }
-        if limit <= order_at(body, p, MAPPING) % NAMES {
-            return false;
-        }
-        p = whole_end(body, p);
-    }
-    true
+    mappings_pass(body, |key| key % NAMES < limit)
 }
 
-// The kind of a key has its number in the table of what kinds map to, where it is in the table at all.
-fn number_known(uses: &[u8], key: usize) -> bool
-    requires { key < length uses.now }
-    ensures { result ≡ key_known uses.now key }
-{
-    if uses[key - key % NAMES] == 0 {
-        return true;
-    }
-    uses[key] != 0
-}
-
-// The same of all mappings of a body.
+// The kinds of a body have its numbers in the table of what kinds map to, where they are in the table at all.
 fn numbers_known(body: &[u8], uses: &[u8]) -> bool
     requires { ((b : Body) × (body_of body.now ≡ some b)) × (length uses.now ≡ uses_length) }
     ensures { (b c : Body) → body_of body.now ≡ some b → Mapped uses.now c → result ≡ all (number_in c) b }
 {
-    let mut p = 0;
-    while p < body.len() {
-        if is_clause(body[p]) {
-            return true;
-        }
-        if !number_known(uses, order_at(body, p, MAPPING)) {
-            return false;
-        }
-        p = whole_end(body, p);
-    }
-    true
+    mappings_pass(body, |key| uses[key - key % NAMES] == 0 || uses[key] != 0)
 }
 
 // Each number that a kind has in the first body it has in the second, where that maps it at all. Mappings by number 0
@@ -82,8 +70,5 @@ pub fn numbers_agree(first: &[u8], second: &[u8]) -> bool
     requires { ((b : Body) × (body_of first.now ≡ some b)) × ((c : Body) × (body_of second.now ≡ some c)) × (length first.now ≤ 32768) × (length second.now ≤ 32768) }
     ensures { (b c : Body) → body_of first.now ≡ some b → body_of second.now ≡ some c → result ≡ (all (number_in c) b && all (number_in b) c) }
 {
-    if !numbers_kept(first, second) {
-        return false;
-    }
-    numbers_kept(second, first)
+    numbers_kept(first, second) && numbers_kept(second, first)
 }

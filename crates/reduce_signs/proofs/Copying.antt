@@ -1,27 +1,18 @@
 -- The values that are copied and combined: parts of slices, the sort that the code names, and what a slot holds.
+use Rattle.std.specs.Prelude.{Err, None, Option, Some}
 use Prim.Native.Nat.{ℕ, zero, suc, ◌+◌, ◌-◌, ◌<◌, ◌≤◌}
 use mathlib.Core.Path.{◌≡◌, refl, ap, sym, subst, ◌∙◌}
-use mathlib.Core.Bool.{true}
 use mathlib.Core.List.{List, [], ◌∷◌, ◌++◌, append_assoc}
-use mathlib.Core.Option.{Option, none, some}
+use mathlib.Core.Option.{Option as Maybe, none, some}
 use native.Mathlib.Omega.{arith}
 use lib.ListN.{length, take, drop, get_or, length-take}
-use lib.Seq.{slice, length-slice, paste, take-paste, take-take, take_at, drop_at, length-paste, length-take-le}
-use Rattle.outcome.specs.Outcome.{value, refused}
-use Rattle.outcome.specs.declared.Outcome.{Outcome}
-use Rattle.outcome.specs.declared.Outcome.TheVariants as Outcomes
+use lib.Seq.{slice, paste, take-paste, take-take, take_at, drop_at, length-paste, length-take-le}
+use Rattle.outcome.specs.Outcome.{value, refused, Outcome}
 use Rattle.outcome.specs.declared.Reason.TheVariants.{UnboundVariable}
 use Rattle.format_fields.proofs.Codec.{refused_value}
 use Rattle.format_fields.specs.Inner.Writing.{Stores, spliced}
-use Rattle.format_fields.specs.declared.copy.Stored.{Stored}
-use Rattle.format_fields.specs.declared.copy.Stored.TheVariants as Storeds
 use Rattle.reduce_operators.specs.Inner.Values as Written
 use Rattle.format_fields.proofs.Splices.{slice_is}
-use Rattle.format_language.specs.Language.{Language}
-use Rattle.format_language.specs.LanguageFile.{language_of}
-use Rattle.format_fields.specs.Keyed.{rising}
-use Rattle.format_translation.specs.Translation.{Body, item_key}
-use Rattle.format_translation.specs.TranslationFile.{body_of}
 use Rattle.format_pack.specs.Terms.{Sort}
 use Rattle.format_pack.specs.Pack.{Pack, pack_of}
 use Rattle.format_pack.proofs.PackCodec.{pack_short}
@@ -29,19 +20,12 @@ use Rattle.reduce_signs.specs.declared.sorts.Binary.{Binary}
 use Rattle.reduce_signs.specs.declared.sorts.Unary.{Unary}
 use Rattle.reduce_signs.specs.declared.apply.Operator.{Operator}
 use Rattle.reduce_signs.specs.declared.places.Places.{Places}
-use Rattle.reduce_signs.specs.declared.evaluated.Evaluated.{Evaluated}
-use Rattle.reduce_signs.specs.declared.evaluated.Evaluated.TheVariants.{Refused}
 use Rattle.reduce_signs.specs.Evaluation.{Value, Environment, there}
 use Rattle.reduce_signs.specs.Inner.Sorts.{encode_as, value_in, bytes_of}
-use Rattle.reduce_signs.specs.Inner.Values.{slot_of, Holds, Held, Saved, HoldsValue, OperandOf, AppliedOne, OperandsOf, AppliedTwo, Operands, Applied, finished, Wrote}
+use Rattle.reduce_signs.specs.Inner.Values.{Evaluated, slot_of, Holds, Held, Saved, HoldsValue, OperandOf, AppliedOne, OperandsOf, AppliedTwo, Operands, Applied, finished, Wrote}
 
 pub value_as : (s t : Sort) (b d : List ℕ) → s ≡ t → b ≡ d → HoldsValue s b → HoldsValue t d
 value_as s t b d e q h = subst (λ (x : Sort). HoldsValue x d) e (subst (λ (l : List ℕ). HoldsValue s l) q h)
-
--- A language that stands in a part, as the code takes it out.
-pub language_cut : (s : List ℕ) (start end : ℕ) (l : Language) → start ≤ end → end ≤ length s → language_of (slice start end s) ≡ value l
-    → language_of (take (end - start) (drop start s)) ≡ value l
-language_cut s start end l h k e = rw (slice_is s start end h k) at e
 
 -- What is copied of a part.
 pub copied_as : (s t : Sort) (b d out filled : List ℕ) (r : Outcome) → s ≡ t → b ≡ d
@@ -81,11 +65,11 @@ module _ {o q : Operator} (pack store : List ℕ) (start middle end : ℕ) (e : 
       (subst (λ (a : List ℕ). Applied q pack a (take (end - middle) (drop middle store)) out filled r) (sym (slice_is store start middle h (omega arith))) d))
 
 -- What a slot holds.
-holds_none : (s : Sort) (o : Option (Value s)) (p e : ℕ) (store : List ℕ) → Holds s o p e store → p ≡ 0 → o ≡ none
+holds_none : (s : Sort) (o : Maybe (Value s)) (p e : ℕ) (store : List ℕ) → Holds s o p e store → p ≡ 0 → o ≡ none
 holds_none s none p e store h z = refl
 holds_none s (some x) p e store h z = absurd (omega (arith, h.0))
 
-holds_some : (s : Sort) (o : Option (Value s)) (p e : ℕ) (store : List ℕ) → Holds s o p e store → (p ≡ 0 → ⊥)
+holds_some : (s : Sort) (o : Maybe (Value s)) (p e : ℕ) (store : List ℕ) → Holds s o p e store → (p ≡ 0 → ⊥)
     → (x : Value s) × (o ≡ some x) × (p ≤ e + 1) × (e ≤ length store) × (slice (p - 1) e store ≡ encode_as s x)
 holds_some s none p e store h z = absurd (z h)
 holds_some s (some x) p e store h z = (x, refl, h.1, h.2, h.3)
@@ -96,12 +80,12 @@ module _ (e : Environment) (places : Places) (store : List ℕ) (top : ℕ) (s :
   at_slot = slot ∙ ap (slot_of s) same
 
   -- A variable that is not bound.
-  pub variable_none : {out : List ℕ} {end : ℕ} → start ≡ 0 → Wrote s (there UnboundVariable (e s v)) out out end (Refused UnboundVariable)
+  pub variable_none : {out : List ℕ} {end : ℕ} → start ≡ 0 → Wrote s (there UnboundVariable (e s v)) out out end (Err UnboundVariable)
   variable_none {out} z =
       let n : e s v ≡ none = holds_none s (e s v) _ _ (take top store) (h.bound s v small) (ap (λ (j : ℕ). get_or places.starts j 0) (sym at_slot) ∙ (sym begins ∙ z)) in
-      let b : bytes_of s (there UnboundVariable (e s v)) ≡ refused UnboundVariable = ap (λ (o : Option (Value s)). bytes_of s (there UnboundVariable o)) n in
+      let b : bytes_of s (there UnboundVariable (e s v)) ≡ refused UnboundVariable = ap (λ (o : Maybe (Value s)). bytes_of s (there UnboundVariable o)) n in
       record {
-        outcome = Outcomes.Refused UnboundVariable;
+        outcome = Err UnboundVariable;
         gives = record { outcome = rw b refl; long = refl; bytes = λ c d. refused_value (sym b ∙ d) };
         answer = refl;
       }
@@ -147,16 +131,16 @@ module _ (e : Environment) (places : Places) (store : List ℕ) (top : ℕ) (s :
       let k = variable_some z ends in
       record {
         outcome = q;
-        gives = subst (λ (o : Option (Value s)). Written.Gives (bytes_of s (there UnboundVariable o)) out filled q) (sym k.1) (g k.0 k.4);
+        gives = subst (λ (o : Maybe (Value s)). Written.Gives (bytes_of s (there UnboundVariable o)) out filled q) (sym k.1) (g k.0 k.4);
         answer = d;
       }
 
 -- What is put into the store.
-pub saves : (v o after : List ℕ) (n : ℕ) (r : Stored) → Stores v o after n r → n + length v ≤ length o → after ≡ spliced o n v
-saves v o after n (Storeds.To m) s h = (s.done m refl).bytes
-saves v o after n Storeds.Full s h = absurd (omega (arith, s.full refl))
+pub saves : (v o after : List ℕ) (n : ℕ) (r : Option ℕ) → Stores v o after n r → n + length v ≤ length o → after ≡ spliced o n v
+saves v o after n (Some m) s h = (s.done m refl).bytes
+saves v o after n None s h = absurd (omega (arith, s.full refl))
 
-pub save_done : (v store after : List ℕ) (n top : ℕ) (r : Stored) → n ≤ length v → top + n ≤ length store → Stores (slice 0 n v) store after top r
+pub save_done : (v store after : List ℕ) (n top : ℕ) (r : Option ℕ) → n ≤ length v → top + n ≤ length store → Stores (slice 0 n v) store after top r
     → Saved v n store after top
 unfolding spliced
 save_done v store after n top r h k s =
@@ -172,10 +156,6 @@ save_done v store after n top r h k s =
       long = ap length d ∙ length-paste store top v n k h;
     }
 
--- The part of a pack that a body stands in.
-pub body_part_lem : (pack : List ℕ) (p e : ℕ) → p ≤ e → e ≤ length pack → (b : Body) → (body_of (slice p e pack) ≡ some b) × (rising item_key b ≡ true)
-    → (b : Body) × (body_of (take (e - p) (drop p pack)) ≡ some b) × (rising item_key b ≡ true)
-body_part_lem pack p e h k b r = (b, ap body_of (sym (slice_is pack p e h k)) ∙ r.0, r.1)
-
-pub body_short : (pack : List ℕ) (w : Pack) (p e : ℕ) → pack_of pack ≡ value w → p ≤ e → e ≤ length pack → length (take (e - p) (drop p pack)) ≤ 32768
-body_short pack w p e z h k = omega (arith, pack_short pack w z, length-slice p e pack k, ap length (slice_is pack p e h k))
+-- A part of a pack is short.
+pub part_short : (pack : List ℕ) (w : Pack) (s : List ℕ) → pack_of pack ≡ value w → length s ≤ length pack → length s ≤ 32768
+part_short pack w s z h = omega (arith, pack_short pack w z)

@@ -49,10 +49,7 @@ fn make_numbered(pack: &[u8], number: usize, a: &[u8], b: &[u8], out: &mut [u8])
     requires { Makes pack.now number a.now b.now × (4096 ≤ length out.old) }
     ensures { Made pack.now number a.now b.now out.old out.new result }
 {
-    let place = body_at(pack, number);
-    let start = place.start;
-    let end = place.end;
-    make(a, b, &pack[start..end], out)
+    make(a, b, body_at(pack, number), out)
 }
 
 // What an operator gives of the values from start up to middle and from there up to end.

@@ -4,26 +4,30 @@ ghost use Rattle.reduce_signs.specs.Inner.Values.{finished};
 
 use outcome::{Outcome, Reason};
 
-// The length of the value in the lent buffer and where the term ends, or the refusal.
-#[derive(Clone, Copy)]
-pub enum Evaluated {
-    To(usize, usize),
-    Refused(Reason),
+// Where the value of a term ends, in the lent buffer or in the store, and where the term ends in the pack.
+#[derive(Clone, Copy, Debug, PartialEq, Eq)]
+pub struct Ended {
+    pub value: usize,
+    pub term: usize,
 }
 
-// Where the values of two operands end in the store and where the second term ends, or the first refusal.
-#[derive(Clone, Copy)]
-pub enum EvaluatedTwo {
-    To(usize, usize, usize),
-    Refused(Reason),
+// That, or the refusal.
+pub type Evaluated = Result<Ended, Reason>;
+
+// Where the values of two operands end in the store, and where the second term ends.
+#[derive(Clone, Copy, Debug, PartialEq, Eq)]
+pub struct EndedTwo {
+    pub first: usize,
+    pub second: usize,
+    pub term: usize,
 }
 
-// The answer for a value that an operator wrote, of a term that ends at `end`.
-pub fn finish(outcome: Outcome, end: usize) -> Evaluated
-    ensures { result ≡ finished outcome end }
+// That, or the first refusal.
+pub type EvaluatedTwo = Result<EndedTwo, Reason>;
+
+// The answer for a value that an operator wrote, of a term that ends at `term`.
+pub fn finish(outcome: Outcome, term: usize) -> Evaluated
+    ensures { result ≡ finished outcome term }
 {
-    match outcome {
-        Outcome::Accepted(n) => Evaluated::To(n, end),
-        Outcome::Refused(reason) => Evaluated::Refused(reason),
-    }
+    outcome.map(|value| Ended { value, term })
 }

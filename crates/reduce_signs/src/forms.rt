@@ -1,6 +1,7 @@
 // The terms by their signs: the two columns of the table.
 ghost use Rattle.format_pack.specs.Terms.{languages, translations};
 ghost use Rattle.reduce_signs.specs.Inner.Forms.{Begins};
+ghost use Rattle.reduce_signs.specs.Inner.Sorts.{sort_of};
 
 use crate::sorts::{Binary, Sort, Unary};
 
@@ -17,7 +18,7 @@ pub enum Form {
 }
 
 // The form of a language term: the left column.
-pub fn language_form(sign: u8) -> Form
+fn language_form(sign: u8) -> Form
     ensures { Begins languages sign result }
 {
     match sign {
@@ -34,7 +35,7 @@ pub fn language_form(sign: u8) -> Form
 }
 
 // The form of a translation term: the right column.
-pub fn translation_form(sign: u8) -> Form
+fn translation_form(sign: u8) -> Form
     ensures { Begins translations sign result }
 {
     match sign {
@@ -47,5 +48,15 @@ pub fn translation_form(sign: u8) -> Form
         0x56 => Form::Let(Sort::Language),
         0x57 => Form::Let(Sort::Translation),
         _ => Form::Unknown,
+    }
+}
+
+// The form of a term of the sort.
+pub fn form_of(sort: Sort, sign: u8) -> Form
+    ensures { Begins (sort_of sort) sign result }
+{
+    match sort {
+        Sort::Language => language_form(sign),
+        Sort::Translation => translation_form(sign),
     }
 }

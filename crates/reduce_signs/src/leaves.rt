@@ -16,7 +16,7 @@ ghost use Rattle.reduce_signs.specs.Inner.Values.{Held, Wrote, Saved};
 use crate::evaluated::{Evaluated, finish};
 use crate::places::{Places, end_of, slot_of, start_of};
 use crate::sorts::Sort;
-use format_fields::bytes::{byte_at, to_usize};
+use format_fields::bytes::byte_at;
 use format_fields::copy::put;
 use format_pack::parts::language_at;
 use outcome::{Outcome, Reason};
@@ -49,13 +49,8 @@ pub fn constant(pack: &[u8], at: usize, out: &mut [u8]) -> Evaluated
     ensures { (p : Pack) (l : Language) → pack_of pack.now ≡ value p → get_elem? p.languages (get_or pack.now (at + 1) 0) ≡ some l
         → Wrote languages (value l) out.old out.new (at + 2) result }
 {
-    let place = language_at(pack, to_usize(byte_at(pack, at + 1)));
-    let start = place.start;
-    let end = place.end;
-    finish(
-        reduce_operators::canonical::language(&pack[start..end], out),
-        at + 2,
-    )
+    let language = language_at(pack, usize::from(byte_at(pack, at + 1)));
+    finish(reduce_operators::canonical::language(language, out), at + 2)
 }
 
 // A variable: the value that is bound to the number behind the sign.
@@ -73,10 +68,10 @@ pub fn variable(
     ensures { (e : Environment) → Held e places (take top store.now)
         → Wrote (sort_of sort) (there UnboundVariable (e (sort_of sort) (get_or pack.now (at + 1) 0))) out.old out.new (at + 2) result }
 {
-    let slot = slot_of(sort, to_usize(byte_at(pack, at + 1)));
+    let slot = slot_of(sort, usize::from(byte_at(pack, at + 1)));
     let start = start_of(places, slot);
     if start == 0 {
-        return Evaluated::Refused(Reason::UnboundVariable);
+        return Err(Reason::UnboundVariable);
     }
     let end = end_of(places, slot);
     finish(copy(sort, store, start - 1, end, out), at + 2)

@@ -1,4 +1,5 @@
 -- What the reducers give, sign by sign, from what their operands and operators give.
+use Rattle.std.specs.Prelude.{Ok, Err}
 use Prim.Native.Nat.{ℕ, ◌+◌, ◌-◌, ◌<◌, ◌≤◌}
 use mathlib.Core.Path.{◌≡◌, refl, ap, sym, subst, ◌∙◌}
 use mathlib.Core.Bool.{Bool, false}
@@ -8,8 +9,7 @@ use mathlib.Core.Option.{Option, some}
 use native.Mathlib.Omega.{arith}
 use lib.ListN.{length, take, drop, get_or, get_elem?}
 use lib.Seq.{slice, take-take}
-use Rattle.outcome.specs.Outcome.{Result, value, refused, refuse_if, ◌>>=◌, written}
-use Rattle.outcome.specs.declared.Outcome.{Outcome}
+use Rattle.outcome.specs.Outcome.{Result, value, refused, refuse_if, ◌>>=◌, written, Outcome}
 use Rattle.outcome.specs.declared.Reason.{Reason}
 use Rattle.outcome.specs.declared.Reason.TheVariants.{ValueTooLarge, UnboundVariable}
 use Rattle.outcome.specs.declared.Reason.TheVariants as Reasons
@@ -26,14 +26,10 @@ use Rattle.reduce_signs.specs.declared.sorts.Binary.TheVariants.{LanguageWithout
 use Rattle.reduce_signs.specs.declared.sorts.Unary.{Unary}
 use Rattle.reduce_signs.specs.declared.sorts.Unary.TheVariants.{Source, Target, Identity}
 use Rattle.reduce_signs.specs.declared.places.Places.{Places}
-use Rattle.reduce_signs.specs.declared.evaluated.Evaluated.{Evaluated}
-use Rattle.reduce_signs.specs.declared.evaluated.Evaluated.TheVariants.{To, Refused}
-use Rattle.reduce_signs.specs.declared.evaluated.EvaluatedTwo.{EvaluatedTwo}
-use Rattle.reduce_signs.specs.declared.evaluated.EvaluatedTwo.TheVariants as Twos
 use Rattle.reduce_signs.specs.Evaluation.{Constants, constants_of, Value, Environment, bound, there, exceeds, limited, evaluate}
 use Rattle.reduce_signs.specs.Inner.Sorts.{encode_as, value_in, bytes_of, first_sort, second_sort, binary_sign, binary_term, binary_of, operand_sort, unary_sort, unary_sign, unary_term, unary_of}
 use Rattle.reduce_signs.specs.Inner.Forms.{Begins}
-use Rattle.reduce_signs.specs.Inner.Values.{slot_of, Changed, Held, Saved, OperandOf, AppliedOne, OperandsOf, AppliedTwo, Makes, Made as MadeOf, finished, Wrote}
+use Rattle.reduce_signs.specs.Inner.Values.{Evaluated, EvaluatedTwo, slot_of, Changed, Held, Saved, OperandOf, AppliedOne, OperandsOf, AppliedTwo, Makes, Made as MadeOf, finished, Wrote}
 use Rattle.reduce_terms.specs.Inner.Reducing.{Context, Stands, Left, Stored, Ends, Says, SaysStored, SaysTwo, Kept, Asks, Gives, GivesStored, AsksTwo, GivesTwo}
 use Rattle.reduce_terms.proofs.Standing.{stands_in, next_byte, positive, no_sign, Two, pair_stands, One, single_stands, variable_stands, constant_stands, Bound, let_stands, Made, make_stands}
 use Rattle.reduce_terms.proofs.Holding.{evaluated_reads, evaluate_within, within_short, context_less, context_behind, context_bound, room_less}
@@ -99,17 +95,17 @@ pub begins_as : (s : Sort) (b : ℕ) {f g : Form} → f ≡ g → Begins s b f �
 begins_as s b e h = subst (Begins s b) e h
 
 -- What the answers say.
-to_left : {s : Sort} {o : Result (Value s)} {pack rest out : List ℕ} {w : Evaluated} {n end : ℕ} → w ≡ To n end → Says s o pack rest out w → Left s o out n × Ends pack rest end
+to_left : {s : Sort} {o : Result (Value s)} {pack rest out : List ℕ} {w : Evaluated} {n end : ℕ} → w ≡ Ok (record { value = n; term = end }) → Says s o pack rest out w → Left s o out n × Ends pack rest end
 to_left {s} {o} {pack} {rest} {out} e h = subst (Says s o pack rest out) e h
 
-to_refused : (s : Sort) (o : Result (Value s)) (pack rest out : List ℕ) {w : Evaluated} {r : Reason} → w ≡ Refused r → Says s o pack rest out w → o ≡ refused r
+to_refused : (s : Sort) (o : Result (Value s)) (pack rest out : List ℕ) {w : Evaluated} {r : Reason} → w ≡ Err r → Says s o pack rest out w → o ≡ refused r
 to_refused s o pack rest out e h = subst (Says s o pack rest out) e h
 
-to_stored : {s : Sort} {o : Result (Value s)} {pack rest store : List ℕ} {top : ℕ} {w : Evaluated} {last end : ℕ} → w ≡ To last end → SaysStored s o pack rest store top w
+to_stored : {s : Sort} {o : Result (Value s)} {pack rest store : List ℕ} {top : ℕ} {w : Evaluated} {last end : ℕ} → w ≡ Ok (record { value = last; term = end }) → SaysStored s o pack rest store top w
     → Stored s o store top last × Ends pack rest end
 to_stored {s} {o} {pack} {rest} {store} {top} e h = subst (SaysStored s o pack rest store top) e h
 
-stored_refused : (s : Sort) (o : Result (Value s)) (pack rest store : List ℕ) (top : ℕ) {w : Evaluated} {r : Reason} → w ≡ Refused r → SaysStored s o pack rest store top w → o ≡ refused r
+stored_refused : (s : Sort) (o : Result (Value s)) (pack rest store : List ℕ) (top : ℕ) {w : Evaluated} {r : Reason} → w ≡ Err r → SaysStored s o pack rest store top w → o ≡ refused r
 stored_refused s o pack rest store top e h = subst (SaysStored s o pack rest store top) e h
 
 module _ {pack : List ℕ} {places : Places} {store : List ℕ} {top at levels : ℕ} where
@@ -144,10 +140,10 @@ module _ {pack : List ℕ} {places : Places} {store : List ℕ} {top at levels :
 
   module _ {s : Sort} {after out filled : List ℕ} {w : Evaluated} (given : Gives s pack places store after top at levels out filled w) where
     -- An operand that is refused.
-    pub operand_refused : {z : Reason} → w ≡ Refused z → GivesStored s pack places store after top at levels out filled (Refused z)
+    pub operand_refused : {z : Reason} → w ≡ Err z → GivesStored s pack places store after top at levels out filled (Err z)
     operand_refused e = record { says = λ g x. to_refused _ _ _ _ _ e (given.says g x); kept = given.kept; long = given.long }
 
-    module _ {n end : ℕ} (e : w ≡ To n end) where
+    module _ {n end : ℕ} (e : w ≡ Ok (record { value = n; term = end })) where
       -- There is room for an operand's value.
       pub operand_room : Asks s pack places store top at levels → (n ≤ length filled) × (top + n ≤ length after)
       operand_room a =
@@ -156,7 +152,7 @@ module _ {pack : List ℕ} {places : Places} {store : List ℕ} {top at levels :
           (z.inside, omega arith)
 
       -- The value was copied into the store.
-      pub operand_to : {last : List ℕ} → top + n ≤ length after → Saved filled n after last top → GivesStored s pack places store last top at levels out filled (To (top + n) end)
+      pub operand_to : {last : List ℕ} → top + n ≤ length after → Saved filled n after last top → GivesStored s pack places store last top at levels out filled (Ok (record { value = top + n; term = end }))
       operand_to {last} room saved = record {
         says = λ g x.
             let z = to_left e (given.says g x) in (
@@ -182,10 +178,10 @@ module _ {pack : List ℕ} {places : Places} {store : List ℕ} {top : ℕ} (at 
 
   module _ {after out filled : List ℕ} {w : Evaluated} (given : GivesStored s pack places store after top (at + 1) (levels - 1) out filled w) where
     -- The first refuses.
-    pub first_refused : {z : Reason} → w ≡ Refused z → GivesTwo s r pack places store after top at levels out filled (Twos.Refused z)
+    pub first_refused : {z : Reason} → w ≡ Err z → GivesTwo s r pack places store after top at levels out filled (Err z)
     first_refused e = record { says = λ g x y. inl (stored_refused _ _ _ _ _ _ e (given.says (context_less g) x)); kept = given.kept; long = given.long }
 
-    module _ {middle next : ℕ} (e : w ≡ To middle next) where
+    module _ {middle next : ℕ} (e : w ≡ Ok (record { value = middle; term = next })) where
       first_stored : (g : Context pack places store top levels) (x : Stands g.pack s (drop (at + 1) pack) (levels - 1))
           → Stored s (evaluate (constants_of g.pack) g.environment x.term) after top middle × Ends pack x.rest next
       first_stored g x = to_stored e (given.says (context_less g) x)
@@ -210,14 +206,14 @@ module _ {pack : List ℕ} {places : Places} {store : List ℕ} {top : ℕ} (at 
             → SaysStored r (evaluate (constants_of g.pack) g.environment y.term) pack y.rest last middle v
         second_says g x y = behind.says (second_context g x) (second_stands g x y)
 
-        pub second_refused : {z : Reason} → v ≡ Refused z → GivesTwo s r pack places store last top at levels out full (Twos.Refused z)
+        pub second_refused : {z : Reason} → v ≡ Err z → GivesTwo s r pack places store last top at levels out full (Err z)
         second_refused q = record {
           says = λ g x y. let m = (first_stored g x).0 in inr ((m.held, m.comes), stored_refused _ _ _ _ _ _ q (second_says g x y));
           kept = both_kept;
           long = behind.long ∙ given.long;
         }
 
-        pub both_to : {end limit : ℕ} → v ≡ To limit end → GivesTwo s r pack places store last top at levels out full (Twos.To middle limit end)
+        pub both_to : {end limit : ℕ} → v ≡ Ok (record { value = limit; term = end }) → GivesTwo s r pack places store last top at levels out full (Ok (record { first = middle; second = limit; term = end }))
         both_to q = record {
           says = λ g x y. let k = to_stored q (second_says g x y) in (stored_kept last behind.kept (first_stored g x).0, k.0, k.1);
           kept = both_kept;
@@ -268,7 +264,7 @@ module _ (pack : List ℕ) {places : Places} {store : List ℕ} {top : ℕ} (at 
         (evaluate (constants_of g.pack) g.environment (operands_of g x).second.term) pack (operands_of g x).second.rest after top w
     both_say g x = let t = operands_of g x in (two_as es er given).says g t.first t.second
 
-    pub binary_refused : {z : Reason} → w ≡ Twos.Refused z → Gives (first_sort o) pack places store after top at levels out filled (Refused z)
+    pub binary_refused : {z : Reason} → w ≡ Err z → Gives (first_sort o) pack places store after top at levels out filled (Err z)
     binary_refused {z} e = record {
       says = λ g x.
           let t = operands_of g x in
@@ -279,7 +275,7 @@ module _ (pack : List ℕ) {places : Places} {store : List ℕ} {top : ℕ} (at 
       long = given.long;
     }
 
-    module _ {middle last end : ℕ} (e : w ≡ Twos.To middle last end) (a : Asks (first_sort o) pack places store top at levels) where
+    module _ {middle last end : ℕ} (e : w ≡ Ok (record { first = middle; second = last; term = end })) (a : Asks (first_sort o) pack places store top at levels) where
       pub binary_values : OperandsOf o (slice top middle after) (slice middle last after) × (top ≤ middle) × (middle ≤ last) × (last ≤ length after)
       binary_values =
           let k = subst (SaysTwo (first_sort o) (second_sort o) _ _ pack _ after top) e (both_say a.context a.stands) in
@@ -314,7 +310,7 @@ module _ (pack : List ℕ) {places : Places} {store : List ℕ} {top : ℕ} (at 
         → SaysStored (operand_sort o) (evaluate (constants_of g.pack) g.environment (operand_of g x).operand.term) pack (operand_of g x).operand.rest after top w
     operand_says g x = (stored_as es given).says (context_less g) (operand_of g x).operand
 
-    pub unary_refused : {z : Reason} → w ≡ Refused z → Gives (unary_sort o) pack places store after top at levels out filled (Refused z)
+    pub unary_refused : {z : Reason} → w ≡ Err z → Gives (unary_sort o) pack places store after top at levels out filled (Err z)
     unary_refused {z} e = record {
       says = λ g x.
           let t = operand_of g x in
@@ -325,7 +321,7 @@ module _ (pack : List ℕ) {places : Places} {store : List ℕ} {top : ℕ} (at 
       long = given.long;
     }
 
-    module _ {last end : ℕ} (e : w ≡ To last end) (a : Asks (unary_sort o) pack places store top at levels) where
+    module _ {last end : ℕ} (e : w ≡ Ok (record { value = last; term = end })) (a : Asks (unary_sort o) pack places store top at levels) where
       pub unary_value : OperandOf o (slice top last after) × (top ≤ last) × (last ≤ last) × (last ≤ length after)
       unary_value = let k = (to_stored e (operand_says a.context a.stands)).0 in ((k.held, k.reads), k.above, omega arith, k.inside)
 
@@ -410,7 +406,7 @@ module _ (pack : List ℕ) {places : Places} {store : List ℕ} {top : ℕ} (at 
         (evaluate (constants_of g.pack) g.environment (making sign g x).terms.second.term) pack (making sign g x).terms.second.rest after top w
     made_say g x = let t = (making sign g x).terms in given.says g t.first t.second
 
-    pub make_refused : {z : Reason} → w ≡ Twos.Refused z → Gives translations pack places store after top at levels out filled (Refused z)
+    pub make_refused : {z : Reason} → w ≡ Err z → Gives translations pack places store after top at levels out filled (Err z)
     unfolding evaluate
     make_refused {z} e = record {
       says = λ g x.
@@ -422,7 +418,7 @@ module _ (pack : List ℕ) {places : Places} {store : List ℕ} {top : ℕ} (at 
       long = given.long;
     }
 
-    module _ {middle last end : ℕ} (e : w ≡ Twos.To middle last end) where
+    module _ {middle last end : ℕ} (e : w ≡ Ok (record { first = middle; second = last; term = end })) where
       -- The number behind both languages.
       made_next : (g : Context pack places store top levels) (x : Stands g.pack translations (drop at pack) levels)
           → (end < length pack) × (get_or pack end 0 ≡ (making sign g x).number) × (drop (end + 1) pack ≡ x.rest)
@@ -489,7 +485,7 @@ module _ (pack : List ℕ) {places : Places} {store : List ℕ} {top : ℕ} (at 
   let_number a = let b = bound_of a.context a.stands in (b.inside, b.small)
 
   module _ {after out filled : List ℕ} {w : Evaluated} (given : GivesStored r pack places store after top (at + 2) (levels - 1) out filled w) where
-    pub let_refused : {z : Reason} → w ≡ Refused z → Gives s pack places store after top at levels out filled (Refused z)
+    pub let_refused : {z : Reason} → w ≡ Err z → Gives s pack places store after top at levels out filled (Err z)
     unfolding evaluate
     let_refused {z} e = record {
       says = λ g x.
@@ -501,7 +497,7 @@ module _ (pack : List ℕ) {places : Places} {store : List ℕ} {top : ℕ} (at 
       long = given.long;
     }
 
-    module _ {last next : ℕ} (e : w ≡ To last next) where
+    module _ {last next : ℕ} (e : w ≡ Ok (record { value = last; term = next })) where
       first_of : (g : Context pack places store top levels) (x : Stands g.pack s (drop at pack) levels)
           → Stored r (evaluate (constants_of g.pack) g.environment (bound_of g x).terms.first.term) after top last × Ends pack (bound_of g x).terms.first.rest next
       first_of g x = to_stored e (given.says (context_less g) (bound_of g x).terms.first)

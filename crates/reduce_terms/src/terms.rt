@@ -1,21 +1,21 @@
-// The two reducers, one for each sort of term: they call each other with fewer levels left. A value is left at the
-// start of the lent buffer; what a sign needs later, operands and bound values, is copied into the store.
+// The reducers: they call each other with fewer levels left. A value is left at the start of the lent buffer; what a sign
+// needs later, operands and bound values, is copied into the store.
 ghost use Rattle.std.specs.Prelude.{◌≡◌, ◌<◌, ◌≤◌, length, get_or};
 ghost use Rattle.format_pack.specs.Terms.{languages, translations, bind_sign};
 ghost use Rattle.reduce_signs.specs.Inner.Sorts.{sort_of, first_sort, binary_sign, unary_sort, unary_sign};
 ghost use Rattle.reduce_signs.specs.Inner.Forms.{Begins};
 ghost use Rattle.reduce_terms.specs.Inner.Reducing.{Asks, Gives, GivesStored, AsksTwo, GivesTwo};
 
-use format_fields::bytes::{byte_at, to_usize};
+use format_fields::bytes::byte_at;
 use outcome::Reason;
 use reduce_signs::apply::{Operator, apply};
-use reduce_signs::evaluated::{Evaluated, EvaluatedTwo, finish};
-use reduce_signs::forms::{Form, language_form, translation_form};
+use reduce_signs::evaluated::{Ended, EndedTwo, Evaluated, EvaluatedTwo, finish};
+use reduce_signs::forms::{Form, form_of};
 use reduce_signs::leaves::{constant, save, variable};
 use reduce_signs::places::{Places, set_slot, slot_of};
 use reduce_signs::sorts::{Binary, Sort, Unary, first_sort, operand_sort, second_sort};
 
-// A term of the sort.
+// A term of the sort: each sort has a reducer of its own.
 #[cycle(binary_term_language_term_let_term_make_term_operand_operands_term_by_form_term_of_translation_term_unary_term)]
 fn term_of(
     sort: Sort,
@@ -53,13 +53,12 @@ fn operand(
     ensures { GivesStored (sort_of sort) pack.now places store.old store.new top at levels
         out.old out.new result }
 {
-    match term_of(sort, pack, at, levels, places, store, top, out) {
-        Evaluated::Refused(reason) => Evaluated::Refused(reason),
-        Evaluated::To(n, end) => {
-            save(out, n, store, top);
-            Evaluated::To(top + n, end)
-        }
-    }
+    let ended = term_of(sort, pack, at, levels, places, store, top, out)?;
+    save(out, ended.value, store, top);
+    Ok(Ended {
+        value: top + ended.value,
+        term: ended.term,
+    })
 }
 
 // The two operands of the sign at `at`, left to right, one behind the other in the store.
@@ -80,15 +79,15 @@ fn operands(
         out.old out.new result }
 {
     let below = levels - 1;
-    match operand(first, pack, at + 1, below, places, store, top, out) {
-        Evaluated::Refused(reason) => EvaluatedTwo::Refused(reason),
-        Evaluated::To(middle, next) => {
-            match operand(second, pack, next, below, places, store, middle, out) {
-                Evaluated::Refused(reason) => EvaluatedTwo::Refused(reason),
-                Evaluated::To(last, end) => EvaluatedTwo::To(middle, last, end),
-            }
-        }
-    }
+    let left = operand(first, pack, at + 1, below, places, store, top, out)?;
+    let right = operand(
+        second, pack, left.term, below, places, store, left.value, out,
+    )?;
+    Ok(EndedTwo {
+        first: left.value,
+        second: right.value,
+        term: right.term,
+    })
 }
 
 // An operator on two values: both operands, and then the operator.
@@ -109,13 +108,12 @@ fn binary_term(
 {
     let first = first_sort(operator);
     let second = second_sort(operator);
-    match operands(first, second, pack, at, levels, places, store, top, out) {
-        EvaluatedTwo::Refused(reason) => Evaluated::Refused(reason),
-        EvaluatedTwo::To(middle, last, end) => {
-            let operator = Operator::Two(operator);
-            finish(apply(operator, pack, store, top, middle, last, out), end)
-        }
-    }
+    let both = operands(first, second, pack, at, levels, places, store, top, out)?;
+    let operator = Operator::Two(operator);
+    finish(
+        apply(operator, pack, store, top, both.first, both.second, out),
+        both.term,
+    )
 }
 
 // An operator on one value: the operand, and then the operator.
@@ -135,13 +133,12 @@ fn unary_term(
         out.old out.new result }
 {
     let sort = operand_sort(operator);
-    match operand(sort, pack, at + 1, levels - 1, places, store, top, out) {
-        Evaluated::Refused(reason) => Evaluated::Refused(reason),
-        Evaluated::To(last, end) => {
-            let operator = Operator::One(operator);
-            finish(apply(operator, pack, store, top, last, last, out), end)
-        }
-    }
+    let ended = operand(sort, pack, at + 1, levels - 1, places, store, top, out)?;
+    let operator = Operator::One(operator);
+    finish(
+        apply(operator, pack, store, top, ended.value, ended.value, out),
+        ended.term,
+    )
 }
 
 // A translation of two languages and a body, whose number is behind them.
@@ -160,16 +157,12 @@ fn make_term(
         out.old out.new result }
 {
     let sort = Sort::Language;
-    match operands(sort, sort, pack, at, levels, places, store, top, out) {
-        EvaluatedTwo::Refused(reason) => Evaluated::Refused(reason),
-        EvaluatedTwo::To(middle, last, end) => {
-            let operator = Operator::Make(to_usize(byte_at(pack, end)));
-            finish(
-                apply(operator, pack, store, top, middle, last, out),
-                end + 1,
-            )
-        }
-    }
+    let both = operands(sort, sort, pack, at, levels, places, store, top, out)?;
+    let operator = Operator::Make(usize::from(byte_at(pack, both.term)));
+    finish(
+        apply(operator, pack, store, top, both.first, both.second, out),
+        both.term + 1,
+    )
 }
 
 // A let: the value of the first term is bound where it is in the store, and the second is evaluated with it.
@@ -190,14 +183,19 @@ fn let_term(
         out.old out.new result }
 {
     let below = levels - 1;
-    match operand(bound, pack, at + 2, below, places, store, top, out) {
-        Evaluated::Refused(reason) => Evaluated::Refused(reason),
-        Evaluated::To(last, next) => {
-            let slot = slot_of(bound, to_usize(byte_at(pack, at + 1)));
-            let inner = set_slot(places, slot, top + 1, last);
-            term_of(sort, pack, next, below, inner, store, last, out)
-        }
-    }
+    let ended = operand(bound, pack, at + 2, below, places, store, top, out)?;
+    let slot = slot_of(bound, usize::from(byte_at(pack, at + 1)));
+    let inner = set_slot(places, slot, top + 1, ended.value);
+    term_of(
+        sort,
+        pack,
+        ended.term,
+        below,
+        inner,
+        store,
+        ended.value,
+        out,
+    )
 }
 
 // A term of the sort, by its form: what the signs of both sorts share.
@@ -224,7 +222,7 @@ fn term_by_form(
         Form::Two(o) => binary_term(o, pack, at, levels, places, store, top, out),
         Form::Make => make_term(pack, at, levels, places, store, top, out),
         Form::Let(bound) => let_term(bound, sort, pack, at, levels, places, store, top, out),
-        Form::Unknown => Evaluated::Refused(Reason::IllegalTerm),
+        Form::Unknown => Err(Reason::IllegalTerm),
     }
 }
 
@@ -244,20 +242,11 @@ fn language_term(
         out.old out.new result }
 {
     if levels == 0 {
-        return Evaluated::Refused(Reason::IllegalTerm);
+        return Err(Reason::IllegalTerm);
     }
-    let form = language_form(byte_at(pack, at));
-    term_by_form(
-        form,
-        Sort::Language,
-        pack,
-        at,
-        levels,
-        places,
-        store,
-        top,
-        out,
-    )
+    let sort = Sort::Language;
+    let form = form_of(sort, byte_at(pack, at));
+    term_by_form(form, sort, pack, at, levels, places, store, top, out)
 }
 
 // A translation term: the right column.
@@ -276,18 +265,9 @@ pub fn translation_term(
         out.old out.new result }
 {
     if levels == 0 {
-        return Evaluated::Refused(Reason::IllegalTerm);
+        return Err(Reason::IllegalTerm);
     }
-    let form = translation_form(byte_at(pack, at));
-    term_by_form(
-        form,
-        Sort::Translation,
-        pack,
-        at,
-        levels,
-        places,
-        store,
-        top,
-        out,
-    )
+    let sort = Sort::Translation;
+    let form = form_of(sort, byte_at(pack, at));
+    term_by_form(form, sort, pack, at, levels, places, store, top, out)
 }

@@ -2,7 +2,7 @@
 use Prim.Native.Nat.{ℕ, zero, suc, ◌+◌, ◌≤◌, ◌<◌}
 use mathlib.Core.Path.{◌≡◌, refl, sym, ap, ◌∙◌}
 use mathlib.Core.List.{List, []}
-use mathlib.Core.Logic.{◌≢◌, ◌⊎◌, inr, ⊎_elim}
+use mathlib.Core.Logic.{◌≢◌, inr, ⊎_elim}
 use native.Mathlib.Nat.{add_assoc, add-zero}
 use native.Mathlib.Numerals.{add-one}
 use native.Mathlib.Omega.{arith}
@@ -104,9 +104,8 @@ module _ {x : Syntax} {t input : List ℕ} {q at : ℕ} {f : Translation} {given
   pub asked_kind : {kind : ℕ} → kind ≡ source_byte t q → kind < 32
   asked_kind e = let h = a.kind in let m = a.term.kind in omega arith
 
-  pub end_kept : {ends : List ℕ} {kind e : ℕ} → Right x ends input f.source given → kind ≡ source_byte t q → (e ≡ 0) ⊎ Kept ends kind at e → e ≢ 0 → e ≡ at + length (bytes_of x u)
-  end_kept {kind = kind} {e = e} right ek h some =
-      ⊎_elim (λ z. absurd (some z)) (λ z. right kind at e z u (rw (ek ∙ a.kind) a.term.typed) a.term.stands) h
+  pub end_kept : {ends : List ℕ} {kind e : ℕ} → Right x ends input f.source given → kind ≡ source_byte t q → Kept ends kind at e → e ≡ at + length (bytes_of x u)
+  end_kept {kind = kind} {e = e} right ek h = right kind at e h u (rw (ek ∙ a.kind) a.term.typed) a.term.stands
 
 -- find: p is where argument i starts, and the node is the one that it was.
 pub record Reached (x : Syntax) (t input before state : List ℕ) (p i : ℕ) (f : Translation) (given : Uses) (ts : Codes) (ks : List ℕ) : Type 0 where
@@ -146,9 +145,9 @@ module _ {x : Syntax} {t input ends before : List ℕ} {j : ℕ} {f : Translatio
     more : length (all_bytes x (front (i + 1) ts)) ≡ length (all_bytes x (front i ts)) + length (bytes_of x (nth ts i))
     more = rw (add-one i) (front_next (syntax_of x) a.node.typed i few)
 
-    pub reached_known : {after : List ℕ} {e : ℕ} → get_or state (i + 1) 0 ≢ 0 → after ≡ state → e ≡ get_or state (i + 1) 0 → Reached x t input before after e (i + 1) f given ts ks
-    reached_known {after} {e} k w y = rw w record {
-      at = y ∙ (⊎_elim (λ q. absurd (k q)) (λ q. q) (z.node.known i (omega (arith, find_few))) ∙ ap (λ (m : ℕ). m + length (all_bytes x (front (i + 1) ts))) z.same.start);
+    pub reached_known : {after : List ℕ} {e r : ℕ} → (r ≡ get_or state (i + 1) 0) × (r ≢ 0) → after ≡ state → e ≡ r → Reached x t input before after e (i + 1) f given ts ks
+    reached_known k w y = rw w record {
+      at = y ∙ k.0 ∙ (⊎_elim (λ q. absurd (k.1 (k.0 ∙ q))) (λ q. q) (z.node.known i (omega (arith, find_few))) ∙ ap (λ (m : ℕ). m + length (all_bytes x (front (i + 1) ts))) z.same.start);
       node = z.node;
       same = z.same;
     }
@@ -164,9 +163,3 @@ module _ {x : Syntax} {t input ends before : List ℕ} {j : ℕ} {f : Translatio
           node = node_learnt z.node i r s (omega arith);
           same = same_after z.same (same_learnt z.node i r s);
         }
-
-  pub reached_done : {state : List ℕ} {p i : ℕ} → i ≤ j → j ≤ i → Reached x t input before state p i f given ts ks
-      → (p ≡ get_or before 0 0 + length (all_bytes x (front j ts))) × Node x t input state f.source given ts ks × Same before state
-  reached_done {i = i} h k z =
-      let e : i ≡ j = omega arith in
-      (z.at ∙ ap (λ (m : ℕ). get_or before 0 0 + length (all_bytes x (front m ts))) e, z.node, z.same)

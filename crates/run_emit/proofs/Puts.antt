@@ -1,11 +1,12 @@
--- Laws of one, two and three bytes that are put into the output.
-use Prim.Native.Nat.{ℕ, zero, suc, ◌+◌, ◌*◌, ◌≤◌, ◌<◌}
-use mathlib.Core.Path.{◌≡◌, refl, ap, ◌∙◌}
-use mathlib.Core.List.{List, [], ◌∷◌, ◌++◌, append_assoc}
+-- Laws of bytes that are put into the output.
+use Prim.Native.Nat.{ℕ, zero, suc, ◌+◌, ◌-◌, ◌*◌, ◌≤◌, ◌<◌}
+use mathlib.Core.Path.{◌≡◌, refl, ap}
+use mathlib.Core.List.{List, [], ◌∷◌, ◌++◌}
 use native.Mathlib.Omega.{arith}
-use lib.ListN.{length, get_or, take, drop, set, length-set}
+use lib.ListN.{length, get_or, take, drop}
+use lib.Seq.{drop-drop}
+use borrow.Rule.Slice.PartMut.{put_mid}
 use lib.Dec.{eqb}
-use lib.Seq.{sets, sets-eq}
 use borrow.Author.Tests.{eq-eqb, ne_eqb}
 use Rattle.format_fields.proofs.Truth.{by_test}
 use Rattle.tree_reader.specs.Code.{argument}
@@ -17,62 +18,27 @@ use Rattle.format_fields.specs.Inner.Writing.{spliced}
 use Rattle.run_table.specs.Inner.Stands.{Wrote}
 use Rattle.run_emit.specs.Inner.Runs.{leaf_length, leaf_number, code_leaf_run}
 
--- Bytes stored one behind the other are put in.
-stored : (o : List ℕ) (pos : ℕ) (v : List ℕ) → pos + length v ≤ length o → sets o pos v ≡ spliced o pos v
-unfolding spliced
-stored o pos v h = sets-eq v o pos h ∙ append_assoc (take pos o) v (drop (pos + length v) o)
-
-pub wrote_stored : (v o after : List ℕ) (pos r : ℕ) → pos + length v ≤ length o → after ≡ sets o pos v → r ≡ pos + length v → Wrote v o after pos r
-wrote_stored v o after pos r h e i =
-    record { fits = λ j. (i, e ∙ stored o pos v h); full = λ j. absurd (omega arith) }
-
 -- What does not fit is not put in.
 pub wrote_nothing : (v o : List ℕ) (pos r : ℕ) → length o < pos + length v → length o < r → Wrote v o o pos r
 wrote_nothing v o pos r h i =
     record { fits = λ j. absurd (omega arith); full = λ j. (h, record { long = refl; front = refl }) }
 
-one_more : (pos : ℕ) → pos + 1 ≡ suc pos
-one_more pos = omega arith
+-- put
+module _ (v o : List ℕ) (pos n : ℕ) (long : length v ≡ n) where
+  pub put_full : length o < pos + n → Wrote v o o pos (pos + n)
+  put_full h = wrote_nothing v o pos (pos + n) (omega arith) h
 
-two_more : (pos : ℕ) → pos + 2 ≡ suc (suc pos)
-two_more pos = omega arith
-
-pub two_stored : (o : List ℕ) (pos x y : ℕ) → set (set o pos x) (pos + 1) y ≡ sets o pos (x ∷ y ∷ [])
-two_stored o pos x y = ap (λ (n : ℕ). set (set o pos x) n y) (one_more pos)
-
-pub three_stored : (o : List ℕ) (pos x y z : ℕ) → set (set (set o pos x) (pos + 1) y) (pos + 2) z ≡ sets o pos (x ∷ y ∷ z ∷ [])
-three_stored o pos x y z = rw (one_more pos, two_more pos)
-
--- A position is in the output after a store too.
-pub in_set_lem : (l : List ℕ) (i a j : ℕ) → j < length l → j < length (set l i a)
-in_set_lem l i a j h = omega (arith, length-set l i a)
-
-pub in_two : (l : List ℕ) (i a k b j : ℕ) → j < length l → j < length (set (set l i a) k b)
-in_two l i a k b j h = in_set_lem (set l i a) k b j (in_set_lem l i a j h)
-
--- Two and three bytes.
-module _ (x y : ℕ) (o : List ℕ) (pos : ℕ) where
-  pub two_full : length o < pos + 2 → Wrote (x ∷ y ∷ []) o o pos (pos + 2)
-  two_full h = wrote_nothing (x ∷ y ∷ []) o pos (pos + 2) (omega arith) (omega arith)
-
-  pub two_put : pos + 2 ≤ length o → Wrote (x ∷ y ∷ []) o (set (set o pos x) (pos + 1) y) pos (pos + 2)
-  two_put h = wrote_stored (x ∷ y ∷ []) o _ pos (pos + 2) (omega arith) (two_stored o pos x y) refl
-
-module _ (x y z : ℕ) (o : List ℕ) (pos : ℕ) where
-  pub three_full : length o < pos + 3 → Wrote (x ∷ y ∷ z ∷ []) o o pos (pos + 3)
-  three_full h = wrote_nothing (x ∷ y ∷ z ∷ []) o pos (pos + 3) (omega arith) (omega arith)
-
-  pub three_put : pos + 3 ≤ length o → Wrote (x ∷ y ∷ z ∷ []) o (set (set (set o pos x) (pos + 1) y) (pos + 2) z) pos (pos + 3)
-  three_put h = wrote_stored (x ∷ y ∷ z ∷ []) o _ pos (pos + 3) (omega arith) (three_stored o pos x y z) refl
+  pub put_part : (ys : List ℕ) → pos + n ≤ length o → ys ≡ v → Wrote v o (put_mid pos (pos + n - pos) o ys) pos (pos + n)
+  unfolding spliced
+  put_part ys h e =
+      let k : pos + (pos + n - pos) ≡ pos + length v = omega (arith, long) in
+      record {
+        fits = λ j. (omega arith, rw (e, drop-drop (pos + n - pos) pos o) (ap (λ (i : ℕ). take pos o ++ (v ++ drop i o)) k));
+        full = λ j. absurd (omega arith);
+      }
 
 -- put_name
 module _ (x : Syntax) (name : ℕ) (o : List ℕ) (pos : ℕ) where
-  pub name_tree_full : length o < pos + 1 → x ≡ Tree → Wrote (sign (syntax_of x) 1 ++ name ∷ []) o o pos (pos + 1)
-  name_tree_full h t = rw t (wrote_nothing (name ∷ []) o pos (pos + 1) (omega arith) (omega arith))
-
-  pub name_tree : pos + 1 ≤ length o → x ≡ Tree → Wrote (sign (syntax_of x) 1 ++ name ∷ []) o (set o pos name) pos (pos + 1)
-  name_tree h t = rw t (wrote_stored (name ∷ []) o _ pos (pos + 1) (omega arith) refl refl)
-
   pub name_code : {after : List ℕ} {r : ℕ} → x ≡ Code → Wrote (1 ∷ name ∷ []) o after pos r → Wrote (sign (syntax_of x) 1 ++ name ∷ []) o after pos r
   name_code t w = rw t w
 

@@ -4,12 +4,12 @@ use mathlib.Core.Path.{◌≡◌, refl, sym, ap, ◌∙◌}
 use mathlib.Core.Logic.{inl, ⊎_elim}
 use mathlib.Core.Bool.{true, false, not}
 use mathlib.Core.List.{List, [], ◌∷◌, ◌++◌, append-nil}
-use mathlib.Core.Option.{none, some}
+use mathlib.Core.Option.{some}
 use native.Mathlib.Omega.{arith}
 use lib.ListN.{length, get_or, get_elem?, set, drop, length-append, replicate, get_or-replicate}
 use lib.Seq.{get_or-set_other}
 use lib.Dec.{eqb}
-use borrow.Author.Tests.{lt-ltb, le-ltb, eq-eqb, ne_eqb}
+use borrow.Author.Tests.{eq-eqb, ne_eqb}
 use Rattle.format_fields.proofs.Truth.{none_some, some_inj, false_true, is_some_lem}
 use Rattle.format_language.specs.Language.{Language, Range, range_of, arguments_of}
 use Rattle.tree_reader.specs.Code as Terms
@@ -25,9 +25,12 @@ use Rattle.format_translation.proofs.Fitting.{uses_are}
 use Rattle.format_translation.proofs.Preserved.{use_kind}
 use Rattle.run_table.specs.Inner.Stands.{Stands, Wrote}
 use Rattle.run_table.specs.Inner.Table.{index_entry, clause_entry, source_byte, body_byte, span_entry, SpansAt, SpansAllAt, Production, Clause, Ready}
-use Rattle.run_emit.specs.Inner.Runs.{bytes_of, all_bytes, front, Has, Given, Term, Node, Row, Same, FindAsks, LastAsks, tree_level, uses_for, RowAsks, used_place, used_number, UseRoom, ArgumentAsks, PlacedAsks, TermAsks, NodeAt, NodeAsks, runs_of, Started, leaf_at, leaf_length, leaf_number, code_leaf_run, leaf_run, LeafLow, sign_length, known_start, row_bytes}
+use Rattle.run_emit.specs.declared.run.Used.{Used}
+use Rattle.run_emit.specs.declared.run.Used.TheVariants.{Root, At}
+use Rattle.run_emit.specs.Inner.Runs.{bytes_of, all_bytes, front, Has, Given, Term, Node, Row, Same, FindAsks, LastAsks, tree_level, uses_for, RowAsks, used_place, used_number, ArgumentAsks, PlacedAsks, TermAsks, NodeAt, NodeAsks, runs_of, Started, leaf_at, leaf_length, leaf_number, code_leaf_run, leaf_run, LeafLow, sign_length, known_start, row_bytes}
 use Rattle.run_table.proofs.Standing.{stands_head, stands_both, wrote_none, wrote_past, wrote_then}
 use Rattle.run_emit.proofs.Ends.{nth, nth_kind, nth_levels, nth_stands, kind_byte, same_learnt, node_learnt, same_after, front_next}
+use Rattle.run_emit.proofs.Puts.{code_leaf_room}
 use Rattle.run_emit.proofs.Skips.{no_kind}
 
 -- The kind at a place that has one.
@@ -81,7 +84,7 @@ module _ (t : List ℕ) (c stop : ℕ) (l : Language) (r : Uses) where
   row_two (cons (argument i (suc j)) us) w h = let e = w.ends in omega arith
 
   -- The next code is a use of an argument, counted from 0.
-  pub record Used (cs : Codes) : Type 0 where
+  pub record Taken (cs : Codes) : Type 0 where
     pub place : ℕ
     pub by : ℕ
     pub kind : ℕ
@@ -89,7 +92,7 @@ module _ (t : List ℕ) (c stop : ℕ) (l : Language) (r : Uses) where
     pub kinds : List ℕ
     pub is : cs ≡ cons (argument (suc place) by) rest
     pub byte : body_byte t (c + 1) ≡ suc place
-    pub number : used_number t c ≡ by
+    pub number : used_number t (At c) ≡ by
     pub typed : kind_at r (suc place) by ≡ some kind
     pub room : c + (body_byte t c - 1) ≤ stop
     pub more : (body_byte t c ≡ 3 → ⊥) → c + 2 < stop
@@ -122,7 +125,7 @@ module _ (t : List ℕ) (c stop : ℕ) (l : Language) (r : Uses) where
     pub row : Row t (c + 3) stop l r rest kinds
 
   abbrev pub Next : Codes → Type 0
-  Next cs = (body_byte t c ≡ 1 → Named cs) × (2 < body_byte t c → Used cs) × ((body_byte t c ≡ 1 → ⊥) → body_byte t c ≤ 2 → Valued cs)
+  Next cs = (body_byte t c ≡ 1 → Named cs) × (2 < body_byte t c → Taken cs) × ((body_byte t c ≡ 1 → ⊥) → body_byte t c ≤ 2 → Valued cs)
 
   next_node : (k p : ℕ) (ts us : Codes) (ks js : List ℕ) → TypedAll l r ts ks → Row t c stop l r (cons (node k p ts) us) js → TypedAll l r us (drop 1 js)
       → Next (cons (node k p ts) us)
@@ -180,8 +183,7 @@ module _ (t : List ℕ) (c stop : ℕ) (l : Language) (r : Uses) where
       let s = signs 3 (suc i) (write_all code us) w.stands in
       let z = w.spans in
       let d = w.ends in
-      let y = s.0 in
-      let low : c < 4096 = let m = w.inside in omega arith in (
+      let y = s.0 in (
         (λ e. absurd (omega arith)),
         (λ e. record {
           place = i;
@@ -191,7 +193,7 @@ module _ (t : List ℕ) (c stop : ℕ) (l : Language) (r : Uses) where
           kinds = drop 1 js;
           is = refl;
           byte = s.1;
-          number = rw (lt-ltb c 4096 low, eq-eqb (body_byte t c) 3 y);
+          number = rw (eq-eqb (body_byte t c) 3 y);
           typed = h;
           room = omega arith;
           more = λ n. absurd (n y);
@@ -208,8 +210,7 @@ module _ (t : List ℕ) (c stop : ℕ) (l : Language) (r : Uses) where
       let b = stands_head t (17472 + (c + 2)) (suc m) (write_all code us) s.2 in
       let z = w.spans in
       let d = w.ends in
-      let y = s.0 in
-      let low : c < 4096 = let n = w.inside in omega arith in (
+      let y = s.0 in (
         (λ e. absurd (omega arith)),
         (λ e. record {
           place = i;
@@ -219,7 +220,7 @@ module _ (t : List ℕ) (c stop : ℕ) (l : Language) (r : Uses) where
           kinds = drop 1 js;
           is = refl;
           byte = s.1;
-          number = rw (lt-ltb c 4096 low, ne_eqb (body_byte t c) 3 (λ q. omega arith)) b.1;
+          number = rw (ne_eqb (body_byte t c) 3 (λ q. omega arith)) b.1;
           typed = h;
           room = omega arith;
           more = λ n. omega arith;
@@ -285,7 +286,7 @@ same_self s = record { from = refl; start = refl }
 abbrev pub ArgumentGives : (x : Syntax) (t input ends before after : List ℕ) (c left : ℕ) (o end : List ℕ) (pos e : ℕ) → Type 0
 ArgumentGives x t input ends before after c left o end pos e =
     (f : Translation) (given : Uses) (ts : Codes) (ks : List ℕ) → ArgumentAsks x t input ends before c left f given ts ks
-    → Wrote (bytes_of x (run_operand (clauses_of f) ts (used_place t c) (used_number t c))) o end pos e × Node x t input after f.source given ts ks × Same before after
+    → Wrote (bytes_of x (run_operand (clauses_of f) ts (used_place t c) (used_number t (At c)))) o end pos e × Node x t input after f.source given ts ks × Same before after
 
 -- What a row that was put out gives.
 abbrev pub RowGives : (x : Syntax) (t input ends before after : List ℕ) (at stop left : ℕ) (o end : List ℕ) (pos e : ℕ) → Type 0
@@ -367,7 +368,7 @@ module _ {x : Syntax} {t input ends before state : List ℕ} {c stop left : ℕ}
 
     -- The next code is a use of an argument.
     module _ {sign : ℕ} (es : sign ≡ body_byte t c) (is : 2 < sign) where
-      used : Used t c stop f.target (uses_for f ks) g.rest
+      used : Taken t c stop f.target (uses_for f ks) g.rest
       used = nexts.1 (omega arith)
 
       pub argument_some : 2 < left % tree_level
@@ -391,13 +392,13 @@ module _ {x : Syntax} {t input ends before state : List ℕ} {c stop left : ℕ}
         most = g.asks.most;
         nodes = let n = g.asks.nodes in let h = argument_some in omega arith;
         more = let h = argument_some in omega arith;
-        room = λ z n. let h = used.more n in let i = g.asks.row.inside in omega arith;
+        room = (let h = next_below in omega arith, λ n. let h = used.more n in let i = g.asks.row.inside in omega arith);
         some = let b = used.byte in omega arith;
         place = rw place_is used_has.0;
         has = rw (place_is, used.number) used_has.1;
       }
 
-      bytes_used : row_bytes x f ts g.rest ≡ bytes_of x (run_operand (clauses_of f) ts (used_place t c) (used_number t c)) ++ row_bytes x f ts used.rest
+      bytes_used : row_bytes x f ts g.rest ≡ bytes_of x (run_operand (clauses_of f) ts (used_place t c) (used_number t (At c))) ++ row_bytes x f ts used.rest
       bytes_used = ap (row_bytes x f ts) used.is ∙ rw (place_is, used.number) (row_use x f ts used.place used.by used.rest)
 
       pub argument_turn : {after end : List ℕ} {e : ℕ} → ArgumentGives x t input ends state after c (left - 1) mid end p e
@@ -719,26 +720,23 @@ pub tells : (x : Syntax) (t : List ℕ) (f : Translation) (given : Uses) (input 
 tells x t f given input at u k g h = tells_by t f given input at g.ready x g h.typed h.kind h.stands
 
 -- number_at, a return at a time.
-module _ (t : List ℕ) (c : ℕ) where
-  pub used_root : 4096 ≤ c → c - 4096 ≡ used_number t c
+module _ (t : List ℕ) {used : Used} where
+  pub used_root : {n : ℕ} → used ≡ Root n → n ≡ used_number t used
   unfolding used_number
-  used_root h = rw (le-ltb c 4096 h)
+  used_root e = rw e
 
-  pub used_zero : {sign : ℕ} → c < 4096 → sign ≡ body_byte t c → sign ≡ 3 → 0 ≡ used_number t c
+  pub used_zero : {c sign : ℕ} → used ≡ At c → sign ≡ body_byte t c → sign ≡ 3 → 0 ≡ used_number t used
   unfolding used_number
-  used_zero h e is = rw (lt-ltb c 4096 h, eq-eqb (body_byte t c) 3 (sym e ∙ is))
+  used_zero {c} e s is = rw (e, eq-eqb (body_byte t c) 3 (sym s ∙ is))
 
-  pub used_behind : {sign n : ℕ} → c < 4096 → sign ≡ body_byte t c → (sign ≡ 3 → ⊥) → n ≡ body_byte t (c + 2) → n ≡ used_number t c
+  pub used_behind : {c d sign n : ℕ} → used ≡ At c → used ≡ At d → sign ≡ body_byte t c → (sign ≡ 3 → ⊥) → n ≡ body_byte t (d + 2) → n ≡ used_number t used
   unfolding used_number
-  used_behind h e is q = rw (lt-ltb c 4096 h, ne_eqb (body_byte t c) 3 (λ z. is (e ∙ z))) q
+  used_behind {c} {d} e h s is q = let i : c ≡ d = cc in rw (h, ne_eqb (body_byte t d) 3 (λ z. is (s ∙ ap (λ (n : ℕ). body_byte t n) i ∙ z))) q
 
 -- The number of the root.
-root_number : (t : List ℕ) (n : ℕ) → used_number t (4096 + n) ≡ n
-root_number t n = let e : 4096 + n - 4096 ≡ n = omega arith in sym (used_root t (4096 + n) (omega arith)) ∙ e
-
--- Nothing is asked of where the root is used.
-pub root_use : (t : List ℕ) (n : ℕ) → UseRoom t (4096 + n)
-root_use t n h = absurd (omega arith)
+root_number : (t : List ℕ) (n : ℕ) → used_number t (Root n) ≡ n
+unfolding used_number
+root_number t n = refl
 
 -- A node of which nothing is known but where its argument kinds and its arguments start.
 pub record Fresh (state : List ℕ) (from start : ℕ) : Type 0 where
@@ -951,8 +949,8 @@ FindGives x t input ends before after j e =
 
 -- start_of: what is known of the start of an argument is right.
 pub start_known : {x : Syntax} {t input ends state : List ℕ} {j at : ℕ} {f : Translation} {given : Uses} {ts : Codes} {ks : List ℕ} → FindAsks x t input ends state j f given ts ks
-    → at ≡ known_start state j → (at ≡ 0 → ⊥) → (at ≡ get_or state 0 0 + length (all_bytes x (front j ts))) × Node x t input state f.source given ts ks × Same state state
-start_known {x} {t} {input} {state = state} {j} {f = f} {given} {ts} {ks} a e h =
+    → (at ≡ known_start state j) × (at ≡ 0 → ⊥) → (at ≡ get_or state 0 0 + length (all_bytes x (front j ts))) × Node x t input state f.source given ts ks × Same state state
+start_known {x} {t} {input} {state = state} {j} {f = f} {given} {ts} {ks} a (e, h) =
     (e ∙ known_start_lem x t input state f.source given ts ks a.node j a.number (λ z. h (e ∙ z)), a.node, same_self state)
 
 -- last_end
@@ -964,8 +962,8 @@ module _ {x : Syntax} {t input ends state : List ℕ} {f : Translation} {given :
     pub last_find : FindAsks x t input ends state (n - 2) f given ts ks
     last_find = rw last_number a.asks
 
-    pub last_known : {e : ℕ} → e ≡ known_start state (n - 2) → (e ≡ 0 → ⊥) → e ≡ get_or state 0 0 + length (all_bytes x ts)
-    last_known ee h =
+    pub last_known : {e : ℕ} → (e ≡ known_start state (n - 2)) × (e ≡ 0 → ⊥) → e ≡ get_or state 0 0 + length (all_bytes x ts)
+    last_known (ee, h) =
         let c = last_number in
         ee ∙ (known_start_lem x t input state f.source given ts ks a.asks.node (n - 2) (omega arith) (λ z. h (ee ∙ z))
         ∙ (ap (start_of x state ts) last_number ∙ last_end x t input state f.source given ts ks a.asks.node))
@@ -984,7 +982,7 @@ NodeGives x t input ends before after at k number left j o end pos e =
 abbrev pub PlacedGives : (x : Syntax) (t input ends before after : List ℕ) (left j at c : ℕ) (o end : List ℕ) (pos e : ℕ) → Type 0
 PlacedGives x t input ends before after left j at c o end pos e =
     (f : Translation) (given : Uses) (ts : Codes) (ks : List ℕ) → PlacedAsks x t input ends before left j at c f given ts ks
-    → Wrote (bytes_of x (run_operand (clauses_of f) ts (used_place t c) (used_number t c))) o end pos e × Node x t input after f.source given ts ks × Same before after
+    → Wrote (bytes_of x (run_operand (clauses_of f) ts (used_place t c) (used_number t (At c)))) o end pos e × Node x t input after f.source given ts ks × Same before after
 
 -- The start of the argument that is used at c was found, and its run is asked for and put out.
 module _ {x : Syntax} {t input ends before : List ℕ} {c left b : ℕ} (eb : b ≡ body_byte t (c + 1)) where
@@ -1043,14 +1041,14 @@ module _ {x : Syntax} {t input ends state : List ℕ} {left j at c : ℕ} {f : T
     pub found_below : (kind < 32) × (at < length input)
     found_below = (found_term.kind, found_tells.inside)
 
-    found_has : Has f kind (used_number t c)
+    found_has : Has f kind (used_number t (At c))
     found_has = rw (kind_is, a.used) a.asks.has
 
     found_levels : levels (nth ts j) ≤ levels_all ts
     found_levels = nth_levels a.asks.node.typed j j_inside
 
-    found_run : bytes_of x (run_operand (clauses_of f) ts (used_place t c) (used_number t c)) ≡ bytes_of x (run (clauses_of f) (used_number t c) (nth ts j))
-    found_run = rw (← a.used) (ap (bytes_of x) (nth_run f.source given f j (used_number t c) a.asks.node.typed j_inside))
+    found_run : bytes_of x (run_operand (clauses_of f) ts (used_place t c) (used_number t (At c))) ≡ bytes_of x (run (clauses_of f) (used_number t (At c)) (nth ts j))
+    found_run = rw (← a.used) (ap (bytes_of x) (nth_run f.source given f j (used_number t (At c)) a.asks.node.typed j_inside))
 
     found_kept : (e : ℕ) → e ≡ at + length (bytes_of x (nth ts j)) → Node x t input (set state (j + 1) e) f.source given ts ks × Same state (set state (j + 1) e)
     found_kept e q =
@@ -1064,18 +1062,18 @@ module _ {x : Syntax} {t input ends state : List ℕ} {left j at c : ℕ} {f : T
       pub leaf_room : at + leaf_length x input at ≤ length input
       leaf_room = let i = found_term.stands.inside in let l = leaf.long in omega arith
 
-      pub leaf_low : x ≡ Code → LeafLow input at (used_number t c)
-      leaf_low e = record { number = a.asks.table.numbers e kind (used_number t c) found_has; used = leaf.low e }
+      pub leaf_low : x ≡ Code → LeafLow input at (used_number t (At c))
+      leaf_low e = record { number = a.asks.table.numbers e kind (used_number t (At c)) found_has; used = leaf.low e }
 
-      pub leaf_gives : {after o end : List ℕ} {pos e : ℕ} → Wrote (leaf_run x input at (used_number t c)) o end pos e → after ≡ set state (j + 1) (at + leaf_length x input at)
-          → Wrote (bytes_of x (run_operand (clauses_of f) ts (used_place t c) (used_number t c))) o end pos e × Node x t input after f.source given ts ks × Same state after
+      pub leaf_gives : {after o end : List ℕ} {pos e : ℕ} → Wrote (leaf_run x input at (used_number t (At c))) o end pos e → after ≡ set state (j + 1) (at + leaf_length x input at)
+          → Wrote (bytes_of x (run_operand (clauses_of f) ts (used_place t c) (used_number t (At c)))) o end pos e × Node x t input after f.source given ts ks × Same state after
       leaf_gives w ea =
           let l = found_kept (at + leaf_length x input at) (ap (λ (m : ℕ). at + m) leaf.long) in
-          (rw (found_run ∙ sym (leaf.runs (used_number t c))) w, rw ea l.0, rw ea l.1)
+          (rw (found_run ∙ sym (leaf.runs (used_number t (At c)))) w, rw ea l.0, rw ea l.1)
 
     -- A production.
     module _ (is : leaf_at x t kind input at ≡ false) where
-      pub found_asks : NodeAsks x t input ends at kind (used_number t c) (left - left % tree_level) f given (nth ts j)
+      pub found_asks : NodeAsks x t input ends at kind (used_number t (At c)) (left - left % tree_level) f given (nth ts j)
       found_asks =
           let l = a.asks.nodes in
           let m = found_levels in
@@ -1088,8 +1086,8 @@ module _ {x : Syntax} {t input ends state : List ℕ} {left j at c : ℕ} {f : T
             whole = omega arith;
           }
 
-      pub found_gives : {after o end : List ℕ} {pos e : ℕ} → NodeGives x t input ends state after at kind (used_number t c) (left - left % tree_level) j o end pos e
-          → Wrote (bytes_of x (run_operand (clauses_of f) ts (used_place t c) (used_number t c))) o end pos e × Node x t input after f.source given ts ks × Same state after
+      pub found_gives : {after o end : List ℕ} {pos e : ℕ} → NodeGives x t input ends state after at kind (used_number t (At c)) (left - left % tree_level) j o end pos e
+          → Wrote (bytes_of x (run_operand (clauses_of f) ts (used_place t c) (used_number t (At c)))) o end pos e × Node x t input after f.source given ts ks × Same state after
       found_gives gives =
           let w = gives f given (nth ts j) found_asks in
           let l = found_kept (at + length (bytes_of x (nth ts j))) refl in
@@ -1097,27 +1095,21 @@ module _ {x : Syntax} {t input ends state : List ℕ} {left j at c : ℕ} {f : T
 
 -- put_argument: a leaf of a tree and of a code.
 module _ {x : Syntax} (input : List ℕ) (at : ℕ) where
-  pub leaf_tree_room : x ≡ Tree → at + leaf_length x input at ≤ length input → at + 2 ≤ length input
-  unfolding leaf_length
-  leaf_tree_room e h = rw e at h
-
-  pub leaf_tree_put : (state : List ℕ) (j number : ℕ) {o end : List ℕ} {pos e : ℕ} → x ≡ Tree
-      → Wrote (sign (syntax_of x) 2 ++ get_or input at 0 ∷ get_or input (at + 1) 0 ∷ []) o end pos e
-      → Wrote (leaf_run x input at number) o end pos e × (set state (j + 1) (at + 2) ≡ set state (j + 1) (at + leaf_length x input at))
-  unfolding leaf_run leaf_length
-  leaf_tree_put state j number q w = rw q (rw q at w, refl)
-
-  pub leaf_code_room : x ≡ Code → at + leaf_length x input at ≤ length input → at + leaf_length Code input at ≤ length input
-  leaf_code_room e h = rw e at h
-
-  pub leaf_code_low : {number by : ℕ} → x ≡ Code → by ≡ number → (x ≡ Code → LeafLow input at number) → LeafLow input at by
-  leaf_code_low e q h = rw q (h e)
-
-  pub leaf_code_put : (state : List ℕ) (j number : ℕ) {by n : ℕ} {o end : List ℕ} {pos e : ℕ} → x ≡ Code → by ≡ number → n ≡ leaf_length x input at
-      → Wrote (code_leaf_run input at by) o end pos e
-      → Wrote (leaf_run x input at number) o end pos e × (set state (j + 1) (at + n) ≡ set state (j + 1) (at + leaf_length x input at))
+  pub leaf_tree_put : (number : ℕ) {o end : List ℕ} {pos e : ℕ} → x ≡ Tree → Wrote (get_or input at 0 ∷ get_or input (at + 1) 0 ∷ []) o end pos e
+      → Wrote (leaf_run x input at number) o end pos e
   unfolding leaf_run
-  leaf_code_put state j number q eb en w = (rw (q, ← eb) w, rw en refl)
+  leaf_tree_put number q w = rw q w
+
+  pub leaf_code_put : (number : ℕ) {by : ℕ} {o end : List ℕ} {pos e : ℕ} → x ≡ Code → by ≡ number → Wrote (code_leaf_run input at by) o end pos e
+      → Wrote (leaf_run x input at number) o end pos e
+  unfolding leaf_run
+  leaf_code_put number q eb w = rw (q, ← eb) w
+
+-- A leaf that lies in the input starts in it.
+pub leaf_here : (x : Syntax) (input : List ℕ) (at : ℕ) → at + leaf_length x input at ≤ length input → at < length input
+unfolding leaf_length
+leaf_here Tree input at h = omega arith
+leaf_here Code input at h = let r = code_leaf_room input at h in omega (arith, r)
 
 -- The run of a whole term.
 module _ {x : Syntax} {t input ends : List ℕ} {deep k number : ℕ} {f : Translation} {given : Uses} {u : Terms.Code} (a : TermAsks x t input ends deep k number f given u) where
@@ -1135,19 +1127,19 @@ module _ {x : Syntax} {t input ends : List ℕ} {deep k number : ℕ} {f : Trans
     pub term_room : 0 + leaf_length x input 0 ≤ length input
     term_room = let i = a.term.stands.inside in let l = (term_tells.leaf is).long in omega arith
 
-    pub term_low : x ≡ Code → LeafLow input 0 (used_number t (4096 + number))
+    pub term_low : x ≡ Code → LeafLow input 0 (used_number t (Root number))
     term_low e = rw (root_number t number) record { number = a.table.numbers e k number a.has; used = (term_tells.leaf is).low e }
 
-    pub term_leaf : {o end : List ℕ} {pos e : ℕ} → Wrote (leaf_run x input 0 (used_number t (4096 + number))) o end pos e → Wrote (bytes_of x (transform f number u)) o end pos e
+    pub term_leaf : {o end : List ℕ} {pos e : ℕ} → Wrote (leaf_run x input 0 (used_number t (Root number))) o end pos e → Wrote (bytes_of x (transform f number u)) o end pos e
     term_leaf w = rw (transform_run ∙ sym ((term_tells.leaf is).runs number)) (rw (root_number t number) at w)
 
   module _ (is : leaf_at x t k input 0 ≡ false) where
-    pub term_asks : NodeAsks x t input ends 0 k (used_number t (4096 + number)) (tree_level * deep) f given u
+    pub term_asks : NodeAsks x t input ends 0 k (used_number t (Root number)) (tree_level * deep) f given u
     term_asks =
         let l = a.levels in
         let m = a.most in
         rw (root_number t number)
         record { there = record { table = a.table; term = a.term; inner = is; has = a.has }; kept = a.kept; most = omega arith; nodes = omega arith; whole = omega arith }
 
-  pub term_gives : {o end : List ℕ} {pos e : ℕ} → Wrote (bytes_of x (run (clauses_of f) (used_number t (4096 + number)) u)) o end pos e → Wrote (bytes_of x (transform f number u)) o end pos e
+  pub term_gives : {o end : List ℕ} {pos e : ℕ} → Wrote (bytes_of x (run (clauses_of f) (used_number t (Root number)) u)) o end pos e → Wrote (bytes_of x (transform f number u)) o end pos e
   term_gives w = rw transform_run (rw (root_number t number) at w)

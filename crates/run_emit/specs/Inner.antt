@@ -1,2 +1,3 @@
 -- What the functions of the run ask for and give.
 pub mod Runs
+pub mod Readings

@@ -2,6 +2,7 @@
 #![tactic(auto)]
 
 pub mod put;
+pub mod reading;
 pub mod run;
 pub mod skip;
 pub mod starts;

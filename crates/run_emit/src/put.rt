@@ -11,31 +11,17 @@ ghost use Rattle.run_emit.specs.Inner.Runs.{leaf_length, code_leaf_run, LeafLow}
 use crate::skip::leaf_number;
 use tree_reader::node::Syntax;
 
-// Puts two bytes.
-fn put_two(x: u8, y: u8, output: &mut [u8], pos: usize) -> usize
-    requires { pos ≤ length output.old }
-    ensures { Wrote (x ∷ y ∷ []) output.old output.new pos result }
+// Puts bytes, of which there are few.
+fn put<const N: usize>(bytes: [u8; N], output: &mut [u8], pos: usize) -> usize
+    requires { (N ≤ 3) × (pos ≤ length output.old) }
+    ensures { Wrote bytes.entry output.old output.new pos result }
 {
-    if output.len() < pos + 2 {
-        return pos + 2;
+    let end = pos + N;
+    if output.len() < end {
+        return end;
     }
-    output[pos] = x;
-    output[pos + 1] = y;
-    pos + 2
-}
-
-// Puts three bytes.
-fn put_three(x: u8, y: u8, z: u8, output: &mut [u8], pos: usize) -> usize
-    requires { pos ≤ length output.old }
-    ensures { Wrote (x ∷ y ∷ z ∷ []) output.old output.new pos result }
-{
-    if output.len() < pos + 3 {
-        return pos + 3;
-    }
-    output[pos] = x;
-    output[pos + 1] = y;
-    output[pos + 2] = z;
-    pos + 3
+    output[pos..end].copy_from_slice(&bytes);
+    end
 }
 
 // Puts a production's name, with its sign in a code.
@@ -44,14 +30,8 @@ pub fn put_name(syntax: Syntax, name: u8, output: &mut [u8], pos: usize) -> usiz
     ensures { Wrote (sign (syntax_of syntax) 1 ++ name ∷ []) output.old output.new pos result }
 {
     match syntax {
-        Syntax::Tree => {
-            if output.len() < pos + 1 {
-                return pos + 1;
-            }
-            output[pos] = name;
-            pos + 1
-        }
-        Syntax::Code => put_two(1, name, output, pos),
+        Syntax::Tree => put([name], output, pos),
+        Syntax::Code => put([1, name], output, pos),
     }
 }
 
@@ -61,8 +41,8 @@ pub fn put_token(syntax: Syntax, high: u8, low: u8, output: &mut [u8], pos: usiz
     ensures { Wrote (sign (syntax_of syntax) 2 ++ high ∷ low ∷ []) output.old output.new pos result }
 {
     match syntax {
-        Syntax::Tree => put_two(high, low, output, pos),
-        Syntax::Code => put_three(2, high, low, output, pos),
+        Syntax::Tree => put([high, low], output, pos),
+        Syntax::Code => put([2, high, low], output, pos),
     }
 }
 
@@ -72,9 +52,9 @@ fn put_use(argument: u8, number: u8, output: &mut [u8], pos: usize) -> usize
     ensures { Wrote (write Meant.code (Terms.argument «argument» «number»)) output.old output.new pos result }
 {
     if number == 0 {
-        return put_two(3, argument, output, pos);
+        return put([3, argument], output, pos);
     }
-    put_three(4, argument, number, output, pos)
+    put([4, argument, number], output, pos)
 }
 
 // Puts the run by a number of the leaf of a code at a position: a token stays itself, an argument is used by its number and
@@ -84,7 +64,7 @@ pub fn put_code_leaf(input: &[u8], at: usize, number: usize, output: &mut [u8], 
     ensures { Wrote (code_leaf_run input.now at number) output.old output.new pos result }
 {
     if input[at] == 2 {
-        return put_three(2, input[at + 1], input[at + 2], output, pos);
+        return put([2, input[at + 1], input[at + 2]], output, pos);
     }
     let by = 16 * leaf_number(input, at) + number;
     put_use(input[at + 1], by as u8, output, pos)

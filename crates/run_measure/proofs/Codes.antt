@@ -1,5 +1,5 @@
 -- Counting over the bytes of a code comes to the code's own bytes and its uses.
-use Prim.Native.Nat.{ℕ, zero, suc, ◌+◌, ◌-◌, ◌/◌, ◌%◌, ◌<◌, ◌≤◌}
+use Prim.Native.Nat.{ℕ, zero, suc, ◌+◌, ◌/◌, ◌%◌, ◌<◌, ◌≤◌}
 use mathlib.Core.Path.{◌≡◌, refl, sym, ap, ◌∙◌}
 use mathlib.Core.Logic.{◌⊎◌, inl, inr, ⊎_elim}
 use mathlib.Core.List.{List, ◌∷◌, ◌++◌, append_assoc}
@@ -17,7 +17,7 @@ use Rattle.tree_reader.specs.Code.{Code, node, token, argument, Codes, nil, cons
 use Rattle.tree_reader.specs.Typing.{Uses, kind_at, Typed, TypedAll, typed_node, typed_token, typed_argument, typed_nil, typed_cons}
 use Rattle.tree_reader.specs.Syntax.{write, write_all, code}
 use Rattle.run_measure.specs.Inner.Sizes.{own, own_all, same_use, uses, uses_all}
-use Rattle.run_measure.specs.Inner.Counting.{Tables, times_at, add_sign, entry_of, amount_of, slot_of, by_of, step_of, count_sign, count_code}
+use Rattle.run_measure.specs.Inner.Counting.{Tables, times_at, add_sign, entry_of, amount_of, slot_of, by_of, step_of, count_code}
 use Rattle.run_measure.proofs.Entries.{Fresh, Room, sign_adds, sign_fresh, sign_lengths}
 use Rattle.run_measure.proofs.Counts.{code_turn}
 
@@ -41,7 +41,6 @@ rest_of s v r q h = sym (drop-drop (length v) q s) ∙ (ap (drop (length v)) h �
 module _ (s : List ℕ) (e to first : ℕ) where
   sign_turn : (q x y z : ℕ) (t : Tables) → get_or s q 0 ≡ x → get_or s (q + 1) 0 ≡ y → by_of x (get_or s (q + 2) 0) ≡ z → q < e
       → count_code s q e to first t ≡ count_code s (q + step_of x) e to first (add_sign t q (to + slot_of x y) (first + z) (amount_of x))
-  unfolding count_sign
   sign_turn q x y z t a b c k = rw (← c, ← a, ← b) (code_turn s q e to first t k)
 
   at_0 : (q x : ℕ) (u : List ℕ) → drop q s ≡ x ∷ u → get_or s q 0 ≡ x
@@ -54,7 +53,7 @@ module _ (s : List ℕ) (e to first : ℕ) where
   at_2 q x y z u h = sym (byte_drop s q 2 (q + 2) refl) ∙ ap (λ (l : List ℕ). get_or l 2 0) h
 
   mutual
-    unfolding write added amount_of slot_of by_of step_of
+    unfolding write added
 
     pub code_counted : (c : Code) (q : ℕ) (r : List ℕ) (t : Tables) → drop q s ≡ write code c ++ r → q + length (write code c) ≤ e
         → count_code s q e to first t ≡ count_code s (q + length (write code c)) e to first (added to first q c t)

@@ -5,122 +5,21 @@ use mathlib.Core.List.{List, [], ◌∷◌}
 use mathlib.Core.Bool.{true}
 use mathlib.Core.Logic.{inl, inr}
 use native.Mathlib.Omega.{arith}
-use lib.ListN.{length, get_or, set, length-set}
-use lib.Dec.{ltb, leb, eqb}
-use borrow.Author.Tests.{le-leb, lt-leb, le-ltb, lt-ltb, eq-eqb, ne_eqb, leb-true, leb-false, ltb-true, ltb-false, eqb-true, eqb-false}
+use lib.ListN.{length, get_or}
+use lib.Dec.{leb, eqb}
+use borrow.Author.Tests.{le-leb, lt-leb, eq-eqb, ne_eqb, leb-true, leb-false}
+use Rattle.std.proofs.lemmas.Grind.{common_steps}
 use Rattle.format_fields.specs.Lists.{all}
 use Rattle.format_fields.specs.Fields.{pair_at}
 use Rattle.format_fields.specs.Inner.Places.{field_end, is_whole, places_from, places}
 use Rattle.format_fields.proofs.Truth.{Mem, by_test}
 use Rattle.format_fields.proofs.Places.{end_past, pass_done, pass_next, every_here}
-use Rattle.run_measure.specs.Inner.Counting.{Tables, add_at, add_entry, entry_of, add_sign, amount_of, slot_of, by_of, step_of, count_sign, count_in, count_code, count_clause, count_all, Below, wider_at, width_in, width_of}
+use Rattle.run_measure.specs.Inner.Counting.{Tables, amount_of, slot_of, by_of, step_of, count_sign, count_in, count_code, count_clause, count_all, Below, wider_at, width_in, width_of}
 use Rattle.run_measure.proofs.Entries.{add_most}
-
--- amount
-pub amount_two : (sign : ℕ) → sign ≡ 2 → 2 ≡ amount_of sign
-unfolding amount_of
-amount_two sign h = cc (eq-eqb sign 2 h)
-
-pub amount_one : (sign : ℕ) → (sign ≡ 2 → ⊥) → 1 ≡ amount_of sign
-unfolding amount_of
-amount_one sign h = cc (ne_eqb sign 2 h)
-
--- slot
-module _ (sign number : ℕ) {n : ℕ} (e : n ≡ number) where
-  pub slot_plain : sign ≡ 3 → n ≡ slot_of sign number
-  unfolding slot_of
-  slot_plain h = cc (eq-eqb sign 3 h)
-
-  pub slot_numbered : (sign ≡ 3 → ⊥) → sign ≡ 4 → n ≡ slot_of sign number
-  unfolding slot_of
-  slot_numbered k h = cc (ne_eqb sign 3 k, eq-eqb sign 4 h)
-
-  pub by_use : sign ≡ 4 → n ≡ by_of sign number
-  unfolding by_of
-  by_use h = cc (eq-eqb sign 4 h)
-
-pub slot_own : (sign number : ℕ) → (sign ≡ 3 → ⊥) → (sign ≡ 4 → ⊥) → 0 ≡ slot_of sign number
-unfolding slot_of
-slot_own sign number k h = cc (ne_eqb sign 3 k, ne_eqb sign 4 h)
-
-pub by_none : (sign number : ℕ) → (sign ≡ 4 → ⊥) → 0 ≡ by_of sign number
-unfolding by_of
-by_none sign number h = cc (ne_eqb sign 4 h)
-
--- step
-pub step_token : (sign : ℕ) → sign ≡ 2 → 3 ≡ step_of sign
-unfolding step_of
-step_token sign h = cc (eq-eqb sign 2 h)
-
-pub step_numbered : (sign : ℕ) → (sign ≡ 2 → ⊥) → sign ≡ 4 → 3 ≡ step_of sign
-unfolding step_of
-step_numbered sign k h = cc (ne_eqb sign 2 k, eq-eqb sign 4 h)
-
-pub step_short : (sign : ℕ) → (sign ≡ 2 → ⊥) → (sign ≡ 4 → ⊥) → 2 ≡ step_of sign
-unfolding step_of
-step_short sign k h = cc (ne_eqb sign 2 k, ne_eqb sign 4 h)
 
 -- A sign has more bytes than it counts.
 step_most : (sign : ℕ) → (amount_of sign + 1 ≤ step_of sign) × (2 ≤ step_of sign) × (amount_of sign ≤ 2)
-step_most sign =
-    by_test (eqb sign 2)
-    (λ e. let d = eqb-true _ _ e in let y = amount_two sign d in let z = step_token sign d in omega arith)
-    (λ e.
-    let d = eqb-false _ _ e in
-    let y = amount_one sign d in
-    by_test (eqb sign 4)
-    (λ a. let z = step_numbered sign d (eqb-true _ _ a) in omega arith)
-    (λ a. let z = step_short sign d (eqb-false _ _ a) in omega arith))
-
--- add_entry
-module _ (u : List ℕ) (e q key n : ℕ) where
-  pub entry_full : length u < e + 3 → u ≡ add_entry u e q key n
-  unfolding add_entry
-  entry_full h = cc (lt-ltb (length u) (e + 3) h)
-
-  pub entry_out : e + 3 ≤ length u → 1024 ≤ q → u ≡ add_entry u e q key n
-  unfolding add_entry
-  entry_out h k = cc (le-ltb (length u) (e + 3) h, le-leb 1024 q k)
-
-  pub entry_in : e + 3 ≤ length u → q < 1024 → set (set (set (set u e (get_or u q 0)) (e + 1) key) (e + 2) n) q e ≡ add_entry u e q key n
-  unfolding add_entry
-  entry_in h k = cc (le-ltb (length u) (e + 3) h, lt-leb 1024 q k)
-
--- The table keeps its length while an entry is written.
-module _ (u : List ℕ) (e : ℕ) (room : e + 3 ≤ length u) where
-  pub write_second : (a : ℕ) → e + 1 < length (set u e a)
-  write_second a = let n = length-set u e a in omega arith
-
-  pub write_third : (a b : ℕ) → e + 2 < length (set (set u e a) (e + 1) b)
-  write_third a b = let n = length-set u e a in let m = length-set (set u e a) (e + 1) b in omega arith
-
-  pub write_head : (a b c q : ℕ) → q < 1024 → 1024 ≤ e → q < length (set (set (set u e a) (e + 1) b) (e + 2) c)
-  write_head a b c q h k =
-      let n = length-set u e a in
-      let m = length-set (set u e a) (e + 1) b in
-      let l = length-set (set (set u e a) (e + 1) b) (e + 2) c in omega arith
-
--- count_sign
-module _ (s : List ℕ) (p own first : ℕ) (t : Tables) {sign number by i j n : ℕ} (es : sign ≡ get_or s p 0) (eb : number ≡ get_or s (p + 1) 0)
-    (ey : by ≡ get_or s (p + 2) 0) (ei : i ≡ slot_of sign number) (ej : j ≡ by_of sign by) (en : n ≡ amount_of sign) where
-  pub sign_plain : {more : List ℕ} → first + j ≡ 0 → more ≡ add_at t.0 (own + i) n → (more, t.1) ≡ count_sign s p own first t
-  unfolding count_sign add_sign
-  sign_plain h em = cc (eq-eqb (first + j) 0 h)
-
-  pub sign_other : {more : List ℕ} {key : ℕ} → (first + j ≡ 0 → ⊥) → key ≡ first + j → more ≡ add_entry t.1 (entry_of p) (own + i) key n
-      → (t.0, more) ≡ count_sign s p own first t
-  unfolding count_sign add_sign
-  sign_other h ek em = cc (ne_eqb (first + j) 0 h)
-
--- A use by number 0, in a clause of number 0.
-pub sign_use : (s : List ℕ) (p own first : ℕ) (t : Tables) {sign number i : ℕ} → sign ≡ get_or s p 0 → number ≡ get_or s (p + 1) 0 → i ≡ number → first ≡ 0 → sign ≡ 3
-    → {more : List ℕ} → more ≡ add_at t.0 (own + i) 1 → (more, t.1) ≡ count_sign s p own first t
-unfolding slot_of by_of amount_of
-sign_use s p own first t {sign} {number} {i} es eb ei h e em =
-    let slot : i ≡ slot_of sign number = rw e ei in
-    let by : 0 ≡ by_of sign (get_or s (p + 2) 0) = rw e in
-    let amount : 1 ≡ amount_of sign = rw e in
-    sign_plain s p own first t es eb refl slot by amount (omega arith) em
+step_most sign = (grind (arith, common_steps), grind (arith, common_steps), grind (arith, common_steps))
 
 -- count_code: a turn, by fuel.
 module _ (s : List ℕ) (p e own first : ℕ) (t : Tables) where
@@ -170,7 +69,6 @@ module _ (s : List ℕ) (p e own first : ℕ) (t : Tables) where
     code_next h = rw (em, en, es) (sym (code_turn h))
 
     pub code_below : p < e → Below t.0 p e → Below more.0 (p + n) e
-    unfolding count_sign add_sign
     code_below h w i =
         let a = w i in
         let c = step_most (get_or s p 0) in
@@ -179,28 +77,20 @@ module _ (s : List ℕ) (p e own first : ℕ) (t : Tables) where
         (λ z. rw z (let b = add_most t.0 (own + slot_of (get_or s p 0) (get_or s (p + 1) 0)) (amount_of (get_or s p 0)) i in omega (arith, c.0, c.1, c.2)))
         (λ z. rw z (omega (arith, c.0, c.1))))
 
--- A count that can be added to.
-pub code_room : (counts : List ℕ) (p e n i : ℕ) → Below counts p e → p < e → e ≤ 4096 → n ≤ 2 → get_or counts i 0 + n < 65536
-code_room counts p e n i w h k m = let a = w i in omega arith
-
 -- count_clause
 module _ (s index : List ℕ) (p : ℕ) (t : Tables) {place pair : ℕ} (er : pair ≡ pair_at s (p + 3)) (ep : place ≡ get_or index (32 + pair) 0) where
   pub clause_unknown : place ≡ 0 → t ≡ count_clause s index p t
-  unfolding count_clause
   clause_unknown h = cc (eq-eqb place 0 h)
 
   module _ (some : place ≡ 0 → ⊥) {e tag : ℕ} (et : tag ≡ get_or s p 0) (ee : e ≡ field_end s p) where
     pub clause_plain : {more : Tables} → tag ≡ 0x23 → more ≡ count_code s (p + 5) e (place + 3) 0 t → more ≡ count_clause s index p t
-    unfolding count_clause
     clause_plain h em = cc (eq-eqb _ _ h, ne_eqb place 0 some)
 
     pub clause_numbered : {more : Tables} {number : ℕ} → (tag ≡ 0x23 → ⊥) → tag ≡ 0x29 → number ≡ get_or s (p + 5) 0
         → more ≡ count_code s (p + 6) e (place + 3) (256 * number) t → more ≡ count_clause s index p t
-    unfolding count_clause
     clause_numbered k h en em = cc (ne_eqb _ _ k, eq-eqb _ _ h, ne_eqb place 0 some)
 
     pub clause_other : (tag ≡ 0x23 → ⊥) → (tag ≡ 0x29 → ⊥) → t ≡ count_clause s index p t
-    unfolding count_clause
     clause_other k h = cc (ne_eqb _ _ k, ne_eqb _ _ h, ne_eqb place 0 some)
 
 module _ (s : List ℕ) (p e : ℕ) (counts : List ℕ) (ee : e ≡ field_end s p) (low : (j : ℕ) → get_or counts j 0 ≤ p) where
@@ -226,35 +116,9 @@ pub all_fits : (s : List ℕ) (p e : ℕ) → all (is_whole s) (places_from s p)
 unfolding is_whole
 all_fits s p e inv here ee = let w = every_here (is_whole s) s p inv here in rw ee (leb-true _ _ w.0, w.1)
 
--- A count that a sign can be added to.
-pub sign_room : (counts : List ℕ) (i n : ℕ) → ((j : ℕ) → get_or counts j 0 ≤ 4096) → n ≤ 2 → get_or counts i 0 + n < 65536
-sign_room counts i n h k = let a = h i in omega arith
-
--- wider
-module _ (s : List ℕ) (p n : ℕ) {tag : ℕ} (et : tag ≡ get_or s p 0) where
-  pub wider_other : (tag ≡ 0x28 → ⊥) → n ≡ wider_at s p n
-  unfolding wider_at
-  wider_other h = cc (ne_eqb _ _ h)
-
-  module _ (is : tag ≡ 0x28) {number : ℕ} (en : number ≡ get_or s (p + 4) 0) where
-    pub wider_under : number < n → n ≡ wider_at s p n
-    unfolding wider_at
-    wider_under h = cc (eq-eqb _ _ is, lt-ltb number n h)
-
-    pub wider_over : n ≤ number → number + 1 ≡ wider_at s p n
-    unfolding wider_at
-    wider_over h = cc (eq-eqb _ _ is, le-ltb number n h)
-
 -- A width grows, and is over the number of each mapping.
 wider_grows : (s : List ℕ) (p n : ℕ) → (n ≤ wider_at s p n) × (get_or s p 0 ≡ 0x28 → get_or s (p + 4) 0 < wider_at s p n)
-wider_grows s p n =
-    by_test (eqb (get_or s p 0) 0x28)
-    (λ e.
-    let is = eqb-true _ _ e in
-    by_test (ltb (get_or s (p + 4) 0) n)
-    (λ d. let h = ltb-true _ _ d in let z = wider_under s p n refl is refl h in (omega arith, λ y. omega arith))
-    (λ d. let h = ltb-false _ _ d in let z = wider_over s p n refl is refl h in (omega arith, λ y. omega arith)))
-    (λ e. let z = wider_other s p n refl (eqb-false _ _ e) in (omega arith, λ y. absurd (eqb-false _ _ e y)))
+wider_grows s p n = (grind (arith, common_steps), λ h. grind (arith, common_steps))
 
 width_grows : (s l : List ℕ) (n : ℕ) → n ≤ width_in s l n
 unfolding width_in

@@ -14,14 +14,12 @@ use Rattle.run_measure.specs.Inner.Counting.{Tables, before, linked, times_at, a
 
 -- The entry before one stands well before it.
 before_under : (e next : ℕ) → 3 ≤ e → before e next + 3 ≤ e
-unfolding before
 before_under e next h =
     by_test (ltb e (next + 3))
     (λ t. rw t (omega arith))
     (λ t. let k = ltb-false e (next + 3) t in rw t (omega arith))
 
 before_is : (e next : ℕ) → next + 3 ≤ e → before e next ≡ next
-unfolding before
 before_is e next h = cc (le-ltb e (next + 3) h)
 
 -- No entry.
@@ -75,7 +73,6 @@ module _ (u : List ℕ) (e q key n : ℕ) (room : e + 3 ≤ length u) (low : 102
   more = set (set (set (set u e (get_or u q 0)) (e + 1) key) (e + 2) n) q e
 
   entry_is : add_entry u e q key n ≡ more
-  unfolding add_entry
   entry_is = cc (le-ltb (length u) (e + 3) room, lt-leb 1024 q here)
 
   -- What stands in the table after it.
@@ -149,7 +146,6 @@ module _ (u : List ℕ) (e q key n : ℕ) (room : e + 3 ≤ length u) (low : 102
       let y = fresh i h in omega arith))
 
 pub entry_length : (u : List ℕ) (e q key n : ℕ) → length (add_entry u e q key n) ≡ length u
-unfolding add_entry
 entry_length u e q key n =
     by_test (ltb (length u) (e + 3))
     (λ t. rw t)
@@ -163,23 +159,15 @@ entry_length u e q key n =
 -- add_at
 module _ (counts : List ℕ) (i n : ℕ) where
   pub add_out : length counts ≤ i → counts ≡ add_at counts i n
-  unfolding add_at
   add_out h = sym (set_out counts i (get_or counts i 0 + n) h)
 
-  pub add_in : set counts i (get_or counts i 0 + n) ≡ add_at counts i n
-  unfolding add_at
-  add_in = refl
-
   pub add_length : length (add_at counts i n) ≡ length counts
-  unfolding add_at
   add_length = length-set counts i (get_or counts i 0 + n)
 
   add_same : i < length counts → get_or (add_at counts i n) i 0 ≡ get_or counts i 0 + n
-  unfolding add_at
   add_same h = get_or-set_same counts i (get_or counts i 0 + n) 0 h
 
   add_other : (j : ℕ) → (i ≡ j → ⊥) → get_or (add_at counts i n) j 0 ≡ get_or counts j 0
-  unfolding add_at
   add_other j h = get_or-set_other counts i j (get_or counts i 0 + n) 0 (λ e. h (sym e))
 
   pub add_most : (j : ℕ) → get_or (add_at counts i n) j 0 ≤ get_or counts j 0 + n
@@ -214,7 +202,7 @@ and_false false = refl
 module _ (t : Tables) (p q key n : ℕ) (short : p < 4096) (here : q < 1024) (long : length t.0 ≡ 1024) (fresh : Fresh t.1 (entry_of p)) where
   pub sign_adds : Room t.1 key → (i x : ℕ) → i < 1024
       → times_at (add_sign t p q key n) i x ≡ cond (eqb q i && eqb key x) n 0 + times_at t i x
-  unfolding times_at add_sign
+  unfolding times_at
   sign_adds room i x l =
       by_test (eqb key 0)
       (λ z. rw z (plain (eqb-true key 0 z)))
@@ -240,7 +228,6 @@ module _ (t : Tables) (p q key n : ℕ) (short : p < 4096) (here : q < 1024) (lo
           rw a (omega arith)
 
   pub sign_fresh : (o : ℕ) → p + 2 ≤ o → Fresh (add_sign t p q key n).1 (entry_of o)
-  unfolding add_sign add_entry
   sign_fresh o l =
       by_test (eqb key 0)
       (λ z. rw z (λ i h. let y = fresh i h in omega arith))
@@ -252,7 +239,6 @@ module _ (t : Tables) (p q key n : ℕ) (short : p < 4096) (here : q < 1024) (lo
       entry_fresh t.1 (entry_of p) q key n big (omega arith) here fresh (entry_of o) (omega arith))))
 
 pub sign_lengths : (t : Tables) (p q key n : ℕ) → (length (add_sign t p q key n).0 ≡ length t.0) × (length (add_sign t p q key n).1 ≡ length t.1)
-unfolding add_sign
 sign_lengths t p q key n =
     by_test (eqb key 0)
     (λ z. rw z (add_length t.0 q n, refl))

@@ -11,30 +11,26 @@ use lib.Dec.{eqb}
 use borrow.Author.Tests.{eqb-true, eqb-false}
 use Rattle.format_fields.proofs.Truth.{by_test}
 use Rattle.tree_reader.specs.declared.node.Syntax.TheVariants.{Tree}
-use Rattle.tree_reader.specs.declared.node.Read.{Read}
-use Rattle.tree_reader.specs.declared.node.Read.TheVariants.{End, Deep, Broken}
 use Rattle.tree_reader.specs.declared.node.Node.TheVariants.{Leaf, Operands}
-use Rattle.tree_reader.specs.Inner.Positions.{node_at, operands_from, read_at}
+use Rattle.tree_reader.specs.Inner.Positions.{node_at, operands_from, read_at, Read}
 use Rattle.tree_reader.specs.Inner.Ends.{Kept}
-use Rattle.run_measure.specs.declared.measure.Step.{Step}
-use Rattle.run_measure.specs.declared.measure.Step.TheVariants as Step
-use Rattle.run_measure.specs.Inner.Descent.{out_of_levels, leaf_step}
+use Rattle.std.specs.Prelude.{Ok, Err}
+use Rattle.run_measure.specs.declared.measure.Row.{Row}
+use Rattle.run_measure.specs.Inner.Descent.{Step, out_of_levels, leaf_step}
 use Rattle.run_measure.proofs.Laws.{read_one}
 use Rattle.run_measure.specs.Inner.Learning.{Learnt, Decides}
 
 -- What follows where reading has come to an end.
 abbrev behind : Read → (ℕ → Read) → Read
-behind (End e) next = next e
-behind Deep next = Deep
-behind Broken next = Broken
+behind (Ok e) next = next e
+behind (Err e) next = Err e
 
 -- step_at
 module _ (s index b : List ℕ) (k at : ℕ) where
   leaf_decides : (top w sum cost : ℕ) (r : Read) → Leaf r ≡ node_at Tree s index [] k b at → Decides s index b k at (leaf_step top w sum cost r)
   unfolding read_at operands_from
-  leaf_decides top w sum cost (End e) h = λ n. rw (← h)
-  leaf_decides top w sum cost Deep h = tt
-  leaf_decides top w sum cost Broken h = tt
+  leaf_decides top w sum cost (Ok e) h = λ n. rw (← h)
+  leaf_decides top w sum cost (Err e) h = tt
 
   -- A token ends where it is read.
   pub token_decides : (top w sum cost : ℕ) {r u : Read} → r ≡ u → {x : Step} → x ≡ leaf_step top w sum cost r → Leaf u ≡ node_at Tree s index [] k b at
@@ -48,13 +44,13 @@ module _ (s index b : List ℕ) (k at : ℕ) where
   name_decides q e to h n = rw (← h)
 
 -- What is known of a step that found a row.
-decides_row : (s index b : List ℕ) (k at : ℕ) {q e to sum cost : ℕ} (x : Step) → x ≡ Step.Row q e to sum cost → Decides s index b k at x
-    → (n : ℕ) → read_at Tree s index [] b (suc n) k at ≡ operands_from (read_at Tree s index [] b n) s (e - q) q to
+decides_row : (s index b : List ℕ) (k at : ℕ) {here : Row} (x : Step) → x ≡ Ok here → Decides s index b k at x
+    → (n : ℕ) → read_at Tree s index [] b (suc n) k at ≡ operands_from (read_at Tree s index [] b n) s (here.last - here.first) here.first here.done.end
 decides_row s index b k at x y h = rw y at h
 
 -- keep_end: an end that is kept is where the reader ends.
 learnt_more : (s index b before : List ℕ) {ends after : List ℕ} {kind at to : ℕ} → Learnt s index b before ends
-    → (n : ℕ) → read_at Tree s index [] b n kind at ≡ End to → to ≤ length b
+    → (n : ℕ) → read_at Tree s index [] b n kind at ≡ Ok to → to ≤ length b
     → ((k p e : ℕ) → Kept after k p e → Kept ends k p e ⊎ ((k ≡ kind) × (p ≡ at) × (e ≡ to)))
     → Learnt s index b before after
 learnt_more s index b before h n y inside more k p e z =
@@ -69,7 +65,7 @@ module _ (s index b : List ℕ) (levels : ℕ) where
   abbrev row : ℕ → ℕ → ℕ → ℕ → Read
   row d q e to = operands_from (read_at Tree s index [] b (levels - d)) s (e - q) q to
 
-  row_done : (d q e to : ℕ) → e ≤ q → row d q e to ≡ End to
+  row_done : (d q e to : ℕ) → e ≤ q → row d q e to ≡ Ok to
   unfolding operands_from
   row_done d q e to h = let z : e - q ≡ 0 = omega arith in rw z
 
@@ -80,13 +76,11 @@ module _ (s index b : List ℕ) (levels : ℕ) where
       rw z (go (term d (get_or s q 0) to))
     where
       go : (r : Read) → (elim r [
-        | End t ↦ operands_from (read_at Tree s index [] b (levels - d)) s (e - (q + 1)) (q + 1) t
-        | Deep ↦ Deep
-        | Broken ↦ Broken
+        | Ok t ↦ operands_from (read_at Tree s index [] b (levels - d)) s (e - (q + 1)) (q + 1) t
+        | Err e ↦ Err e
       ]) ≡ behind r (λ t. row d (q + 1) e t)
-      go (End t) = refl
-      go Deep = refl
-      go Broken = refl
+      go (Ok t) = refl
+      go (Err e) = refl
 
   -- The terms that are open, the deepest first: where the deepest ends is r, where the next one ends is what the row that
   -- waits comes to from there.
@@ -109,8 +103,8 @@ module _ (s index b : List ℕ) (levels : ℕ) where
 
   module _ (firsts lasts starts : List ℕ) where
     -- The deepest term has ended.
-    decided_ends : (d to : ℕ) → (d ≡ 0 → ⊥) → Decided firsts lasts starts d (End to)
-        → (term (d - 1) (get_or s (get_or firsts (d - 1) 0 - 1) 0) (get_or starts (d - 1) 0) ≡ End to)
+    decided_ends : (d to : ℕ) → (d ≡ 0 → ⊥) → Decided firsts lasts starts d (Ok to)
+        → (term (d - 1) (get_or s (get_or firsts (d - 1) 0 - 1) 0) (get_or starts (d - 1) 0) ≡ Ok to)
         × Decided firsts lasts starts (d - 1) (row (d - 1) (get_or firsts (d - 1) 0) (get_or lasts (d - 1) 0) to)
     unfolding Decided
     decided_ends zero to some h = absurd (some refl)
@@ -163,11 +157,6 @@ module _ (s index b : List ℕ) (levels : ℕ) where
   }
 
   module _ {before firsts lasts starts ends : List ℕ} {d q e to : ℕ} (o : Learning s index b levels before firsts lasts starts ends d q e to) where
-    -- The deepest open term.
-    pub learn_in : (d ≡ 0 → ⊥)
-        → (0 < get_or firsts (d - 1) 0) × (get_or firsts (d - 1) 0 - 1 < length s) × (get_or s (get_or firsts (d - 1) 0 - 1) 0 < 32) × (get_or starts (d - 1) 0 ≤ to)
-    learn_in some = o.begun (d - 1) (omega arith)
-
     -- It ends, and its end may be kept.
     pub learn_back : {after : List ℕ} → e ≤ q → (d ≡ 0 → ⊥) → to ≤ length b
         → ((k p x : ℕ) → Kept after k p x → Kept ends k p x ⊎ ((k ≡ get_or s (get_or firsts (d - 1) 0 - 1) 0) × (p ≡ get_or starts (d - 1) 0) × (x ≡ to)))
@@ -183,35 +172,35 @@ module _ (s index b : List ℕ) (levels : ℕ) where
         }
 
     module _ (more : q < e) (under : out_of_levels index (get_or s q 0) (levels - d) ≡ false) (x : Step) (decides : Decides s index b (get_or s q 0) to x)
-        {first last t n c : ℕ} (ex : x ≡ Step.Row first last t n c) (past : to < t) where
-      found : term s index b levels d (get_or s q 0) to ≡ row s index b levels (d + 1) first last t
+        {here : Row} (ex : x ≡ Ok here) (past : to < here.done.end) where
+      found : term s index b levels d (get_or s q 0) to ≡ row s index b levels (d + 1) here.first here.last here.done.end
       found =
           let z : suc (levels - d - 1) ≡ suc (levels - (d + 1)) = omega arith in
           read_one s index b (get_or s q 0) to (levels - d) under
           ∙ ap (λ (m : ℕ). read_at Tree s index [] b m (get_or s q 0) to) z ∙ decides_row s index b (get_or s q 0) to x ex decides (levels - (d + 1))
 
-      whole : row s index b levels d q e to ≡ behind (row s index b levels (d + 1) first last t) (λ a. row s index b levels d (q + 1) e a)
+      whole : row s index b levels d q e to ≡ behind (row s index b levels (d + 1) here.first here.last here.done.end) (λ a. row s index b levels d (q + 1) e a)
       whole =
           row_next s index b levels d q e to more
           ∙ ap (λ (r : Read). behind r (λ a. row s index b levels d (q + 1) e a)) found
 
       -- A term without operands has ended; where it starts is written above the open ones.
-      pub learn_on : last ≤ first → Learning s index b levels before firsts lasts (set starts d to) ends d (q + 1) e t
+      pub learn_on : here.last ≤ here.first → Learning s index b levels before firsts lasts (set starts d to) ends d (q + 1) e here.done.end
       learn_on h =
-          let z : row s index b levels d q e to ≡ row s index b levels d (q + 1) e t =
-          whole ∙ ap (λ (r : Read). behind r (λ a. row s index b levels d (q + 1) e a)) (row_done s index b levels (d + 1) first last t h) in
+          let z : row s index b levels d q e to ≡ row s index b levels d (q + 1) e here.done.end =
+          whole ∙ ap (λ (r : Read). behind r (λ a. row s index b levels d (q + 1) e a)) (row_done s index b levels (d + 1) here.first here.last here.done.end h) in
           let kept : (j : ℕ) → j < d → get_or (set starts d to) j 0 ≡ get_or starts j 0 =
           λ j l. let ne : j ≡ d → ⊥ = λ y. omega arith in get_or-set_other starts d j to 0 ne in
           record {
             start_long = length-set starts d to ∙ o.start_long;
             begun = λ j l. let w = o.begun j l in (w.0, w.1, w.2, omega (arith, kept j l, w.3));
-            decided = decided_same s index b levels firsts lasts starts firsts lasts (set starts d to) d (row s index b levels d (q + 1) e t)
+            decided = decided_same s index b levels firsts lasts starts firsts lasts (set starts d to) d (row s index b levels d (q + 1) e here.done.end)
                 (λ j l. (refl, refl, kept j l)) (subst (λ (r : Read). Decided s index b levels firsts lasts starts d r) z o.decided);
             learnt = o.learnt;
           }
 
       module _ (hf : length firsts ≡ 64) (hl : length lasts ≡ 64) (fits : levels < 64) (deep : d < levels) (inside : q < length s) (kind : get_or s q 0 < 32) where
-        begins : Begun s (set firsts d (q + 1)) (set starts d to) (d + 1) t
+        begins : Begun s (set firsts d (q + 1)) (set starts d to) (d + 1) here.done.end
         begins j l =
             by_test (eqb j d)
             (λ c.
@@ -226,7 +215,7 @@ module _ (s index b : List ℕ) (levels : ℕ) where
             rw (get_or-set_other firsts d j (q + 1) 0 y, get_or-set_other starts d j to 0 y) (w.0, w.1, w.2, omega (arith, w.3)))
 
         -- A term whose operands follow is open.
-        pub learn_down : Learning s index b levels before (set firsts d (q + 1)) (set lasts d e) (set starts d to) ends (d + 1) first last t
+        pub learn_down : Learning s index b levels before (set firsts d (q + 1)) (set lasts d e) (set starts d to) ends (d + 1) here.first here.last here.done.end
         learn_down =
             let kf : d < length firsts = omega arith in
             let kl : d < length lasts = omega arith in
@@ -234,7 +223,7 @@ module _ (s index b : List ℕ) (levels : ℕ) where
             record {
               start_long = length-set starts d to ∙ o.start_long;
               begun = begins;
-              decided = decided_down s index b levels firsts lasts starts d q e to kf kl ks (row s index b levels (d + 1) first last t) found
+              decided = decided_down s index b levels firsts lasts starts d q e to kf kl ks (row s index b levels (d + 1) here.first here.last here.done.end) found
                   (subst (λ (r : Read). Decided s index b levels firsts lasts starts d r) whole o.decided);
               learnt = o.learnt;
             }

@@ -1,4 +1,6 @@
 -- Measuring by position is reading the tree and measuring its run.
+use Rattle.tree_reader.specs.declared.node.ReadError.TheVariants.{Deep, Broken}
+use Rattle.tree_reader.specs.declared.node.ReadError.{ReadError}
 use Prim.Native.Nat.{ℕ, zero, suc, ◌+◌, ◌*◌, ◌-◌, ◌<◌, ◌≤◌}
 use mathlib.Core.Path.{◌≡◌, refl, sym, ap, subst, ◌∙◌}
 use mathlib.Core.List.{List, [], ◌∷◌, map}
@@ -21,10 +23,8 @@ use Rattle.tree_reader.specs.Typing.{Uses, kind_at, Typed, TypedAll, typed_node,
 use Rattle.tree_reader.specs.Syntax as Meant
 use Rattle.tree_reader.specs.Syntax.{and_then, read_all, read_operands, read_node, read_token, read_tree_level, read_level, current, past_levels}
 use Rattle.tree_reader.specs.declared.node.Syntax.TheVariants.{Tree}
-use Rattle.tree_reader.specs.declared.node.Read.{Read}
-use Rattle.tree_reader.specs.declared.node.Read.TheVariants as Read
 use Rattle.tree_reader.specs.Inner.Index.{Indexed, range_before, arguments_before}
-use Rattle.tree_reader.specs.Inner.Positions.{token_at, operands_at, name_at, node_at, past_at, read_at, KindsIn, rest_at, rest_of}
+use Rattle.tree_reader.specs.Inner.Positions.{token_at, operands_at, name_at, node_at, past_at, read_at, KindsIn, rest_at, rest_of, Read}
 use Rattle.tree_reader.proofs.Laws as Read-laws
 use Rattle.tree_reader.proofs.Meaning.{done_of, deep_of, broken_of, read_same}
 use Rattle.format_translation.specs.Translation.{Translation, mapping_of, mapped, clause_of}
@@ -32,15 +32,14 @@ use Rattle.format_translation.specs.Running.{run, uses_of, read_clause, whole_co
 use Rattle.format_translation.proofs.Fitting.{whole_done, uses_are}
 use Rattle.format_translation.proofs.Preserved.{kind_use}
 use Rattle.tree_reader.proofs.Sound.{read_done}
-use Rattle.run_measure.specs.declared.measure.Measured.{Measured}
-use Rattle.run_measure.specs.declared.measure.Measured.TheVariants.{End, Deep, Broken}
-use Rattle.run_measure.specs.declared.measure.Step.{Step}
-use Rattle.run_measure.specs.declared.measure.Step.TheVariants as Step
+use Rattle.std.specs.Prelude.{Ok, Err}
+use Rattle.run_measure.specs.declared.measure.Row.{Row}
+use Rattle.run_measure.specs.Inner.Measuring.{Measured}
 use Rattle.run_measure.specs.Cost.{cost}
 use Rattle.run_measure.specs.Inner.Sizes.{many, size, own, uses, uses_all, numbers, weighted, amount, amount_all, capped}
 use Rattle.run_measure.specs.Inner.Counting.{Tables, times_at}
 use Rattle.run_measure.specs.Inner.Weighing.{Weights, weigh_at, sum_of, once_by}
-use Rattle.run_measure.specs.Inner.Descent.{Weighing, leaf_down, down_from, weigh_down, down_at, down_row, goes_on}
+use Rattle.run_measure.specs.Inner.Descent.{Step, measured, Weighing, leaf_down, down_from, weigh_down, down_at, down_row, goes_on}
 use Rattle.run_measure.specs.Inner.Measuring.{Sized, sized, deep, broken, sized_at, sized_of, Counted}
 use Rattle.run_measure.proofs.Sums.{weighted_none, weighted_zero, weighted_alike, weighted_pick, weighted_times, none_of, of_none, once_of, capped_weighted}
 use Rattle.run_measure.proofs.Sizes.{Bounded, BoundedAll, miss_first, miss_second, run_amount, cost_amount, node_amount}
@@ -216,13 +215,13 @@ module _ (f : Translation) (top : ℕ) where
 
   leaf_same : (b : List ℕ) (w : Weights) (n c : ℕ) (r : Read) (o : Meant.Read Code) → Two o → rest_at b r ≡ rest_of o
       → sized_at b (leaf_down top w (capped top n) (capped top c) r) ≡ sized_by w n c o
-  leaf_same b w n c (Read.End e) o h y =
+  leaf_same b w n c (Ok e) o h y =
       let d = done_of o (drop e b) (sym y) in
       let two : ((j : ℕ) → amount own 2 codes j d.0 ≡ 2) × ((j : ℕ) → amount (λ a. 1) 0 codes j d.0 ≡ 0) = rw d.1 at h in
       let a = leaf_adds w n c (λ j. amount own 2 codes j d.0) (λ j. amount (λ a. 1) 0 codes j d.0) two.0 two.1 in
       rw d.1 (λ x. sized (drop e b) (a.0 x) (a.1 x))
-  leaf_same b w n c Read.Deep o h y = rw (deep_of o (sym y))
-  leaf_same b w n c Read.Broken o h y = rw (broken_of o (sym y))
+  leaf_same b w n c (Err Deep) o h y = rw (deep_of o (sym y))
+  leaf_same b w n c (Err Broken) o h y = rw (broken_of o (sym y))
 
 -- What the tables give: the weights of a code's own bytes and of operands.
 module _ (t : Tables) (width : ℕ) (index : List ℕ) (f : Translation) (top : ℕ) (w : Counted t width index f) (some-width : 0 < width) (narrow : width ≤ 256) where
@@ -316,7 +315,7 @@ module _ (s index : List ℕ) (t : Tables) (width : ℕ) (b : List ℕ) (f : Tra
   unfolding read_all
   meant_next u n c k ks r v a y = rw y (all_made u n c a (read_all g ks v))
 
-  code_next : (v : Weights) (i q at n c x l d : ℕ) → m (by q v) (get_or s q 0) at n c ≡ End x l d
+  code_next : (v : Weights) (i q at n c x l d : ℕ) → m (by q v) (get_or s q 0) at n c ≡ measured x l d
       → down_from m s by (suc i) v q at n c ≡ down_from m s by i v (q + 1) x l d
   unfolding down_from
   code_next v i q at n c x l d y = cc
@@ -326,17 +325,17 @@ module _ (s index : List ℕ) (t : Tables) (width : ℕ) (b : List ℕ) (f : Tra
       → ((e l d : ℕ) → sized_at b (down_from m s by i v (q + 1) e (capped top l) (capped top d)) ≡ sized_all (λ i by. u (suc i) by) l d (read_all g ks (drop e b)))
       → sized_at b (down_from m s by (suc i) v q at (capped top n) (capped top c)) ≡ sized_all u n c (read_all g (get_or s q 0 ∷ ks) (drop at b))
   unfolding down_from read_all
-  next v u (End e l d) i q ks at n c eu y h ih =
-      let o = by_done f top (by q v) n c (g (get_or s q 0) (drop at b)) (drop e b) l d (sym h) in
+  next v u (Ok r) i q ks at n c eu y h ih =
+      let o = by_done f top (by q v) n c (g (get_or s q 0) (drop at b)) (drop r.end b) r.length r.cost (sym h) in
       let x : ℕ = n + weighted (by q v) (λ j. amount own 2 (clauses_of f) j o.0) in
       let x' : ℕ = c + weighted (by q v) (λ j. amount (λ a. 1) 0 (clauses_of f) j o.0) in
-      ap (sized_at b) (code_next v i q at (capped top n) (capped top c) e l d y)
-      ∙ ((λ a. sized_at b (down_from m s by i v (q + 1) e (o.2 a) (o.3 a)))
-      ∙ (ih e x x'
-      ∙ (sym (λ a. sized_all (λ i by. u (suc i) by) (n + weighted (eu a) (λ j. amount own 2 (clauses_of f) j o.0)) (c + weighted (eu a) (λ j. amount (λ a. 1) 0 (clauses_of f) j o.0)) (read_all g ks (drop e b)))
-      ∙ sym (meant_next u n c (get_or s q 0) ks (drop at b) (drop e b) o.0 o.1))))
-  next v u Deep i q ks at n c eu y h ih = cc (by_deep f top (by q v) n c (g (get_or s q 0) (drop at b)) (sym h))
-  next v u Broken i q ks at n c eu y h ih = cc (by_broken f top (by q v) n c (g (get_or s q 0) (drop at b)) (sym h))
+      ap (sized_at b) (code_next v i q at (capped top n) (capped top c) r.end r.length r.cost y)
+      ∙ ((λ a. sized_at b (down_from m s by i v (q + 1) r.end (o.2 a) (o.3 a)))
+      ∙ (ih r.end x x'
+      ∙ (sym (λ a. sized_all (λ i by. u (suc i) by) (n + weighted (eu a) (λ j. amount own 2 (clauses_of f) j o.0)) (c + weighted (eu a) (λ j. amount (λ a. 1) 0 (clauses_of f) j o.0)) (read_all g ks (drop r.end b)))
+      ∙ sym (meant_next u n c (get_or s q 0) ks (drop at b) (drop r.end b) o.0 o.1))))
+  next v u (Err Deep) i q ks at n c eu y h ih = cc (by_deep f top (by q v) n c (g (get_or s q 0) (drop at b)) (sym h))
+  next v u (Err Broken) i q ks at n c eu y h ih = cc (by_broken f top (by q v) n c (g (get_or s q 0) (drop at b)) (sym h))
 
   operands_same : (v : Weights) (u : ℕ → ℕ → ℕ) (i q e at n c : ℕ) → e - q ≡ i → KindsIn s q e → ((j : ℕ) → u j ≡ by (q + j) v)
       → ((j : ℕ) → q + j < e → Supported f top (by (q + j) v) (get_or s (q + j) 0))
@@ -475,11 +474,11 @@ once_is j x h =
     weighted_pick (once_by j) x j h (λ i ne. none_of (x i) (rw (ne_eqb j i ne)))
     ∙ once_of (x j) (rw (eq-eqb j j refl))
 
-measured : (f : Translation) (top j : ℕ) → j < numbers
+measured_is : (f : Translation) (top j : ℕ) → j < numbers
     → ((k p i : ℕ) (ks : List ℕ) → arguments_of f.source k p ≡ some ks → Bounded (length ks) (clauses_of f k p i))
     → (i k : ℕ) (s : List ℕ) (o : Meant.Read Code) → Meant.read Meant.tree f.source [] i k s ≡ o → sized_by f top (once_by j) 0 0 o ≡ sized_of top f j o
 unfolding transform
-measured f top j h bounds i k s (Meant.done t r) e =
+measured_is f top j h bounds i k s (Meant.done t r) e =
     let d = (read_done Meant.tree f.source [] i k s t r e).0 in
     let a = once_is j (λ i. amount own 2 (clauses_of f) i t) h in
     let b = once_is j (λ i. amount (λ c. 1) 0 (clauses_of f) i t) h in
@@ -488,8 +487,8 @@ measured f top j h bounds i k s (Meant.done t r) e =
     let left : capped top (0 + weighted (once_by j) (λ i. amount own 2 (clauses_of f) i t)) ≡ capped top (size (run (clauses_of f) j t)) = omega arith in
     let right : capped top (0 + weighted (once_by j) (λ i. amount (λ c. 1) 0 (clauses_of f) i t)) ≡ capped top (cost (clauses_of f) j t) = omega arith in
     λ z. sized r (left z) (right z)
-measured f top j h bounds i k s Meant.deep e = refl
-measured f top j h bounds i k s Meant.broken e = refl
+measured_is f top j h bounds i k s Meant.deep e = refl
+measured_is f top j h bounds i k s Meant.broken e = refl
 
 -- measure
 pub same_as : (s index counts entries b : List ℕ) (f : Translation) → Indexed index s f.source → {width : ℕ} → Counted (counts, entries) width index f
@@ -503,7 +502,7 @@ same_as s index counts entries b f z {width} w bytes top i k at j v h some-width
     ap (sized_at b) (e ∙ (λ x. down_at s index (weigh_at (counts, entries) top width) b top i (begins l x) k at (zero-top x) (zero-top x)))
     ∙ (measure_same s index (counts, entries) width b f z w some-width narrow bytes top i (once_by j) k at 0 0 h
     (λ m lacks. rw (ne_eqb j m (λ d. none_some (sym lacks ∙ (ap (mapping_of f.body k) (sym d) ∙ maps)))))
-    ∙ measured f top j (omega arith)
+    ∙ measured_is f top j (omega arith)
     (λ c p a ks there. clause_cases f c p a (λ (x : Code). Bounded (length ks) x) tt
     (λ x d. bounded f.target (uses_of f c p) (length ks)
     (λ q m y g. let o = use_of_lem f c p ks there q m y g in (o.0, o.1, (let n = w.narrow o.2.0 m y o.2.1 in omega arith))) d))
@@ -516,14 +515,14 @@ module _ (s index : List ℕ) (v : Weighing) (b : List ℕ) (top : ℕ) (w : Wei
         let z : suc (n - 1) ≡ n = omega arith in
         goes (n - 1) ∙ ap (λ (m : ℕ). down_at s index v b top m w k at sum cost) z
 
-    pub down_broken : x ≡ Step.Broken → Broken ≡ down_at s index v b top n w k at sum cost
-    down_broken y = (let z : Broken ≡ goes_on s index v b top (n - 1) w x = rw y in z) ∙ down_goes
+    pub down_err : {e : ReadError} → x ≡ Err e → Err e ≡ down_at s index v b top n w k at sum cost
+    down_err {e} y = (let z : Err e ≡ goes_on s index v b top (n - 1) w x = rw y in z) ∙ down_goes
 
-    pub down_rows : {q e to own one : ℕ} {r : Measured} → x ≡ Step.Row q e to own one → (u : Weights) → u ≡ w
-        → r ≡ down_row s index v b top (n - 1) u q e to own one → r ≡ down_at s index v b top n w k at sum cost
-    down_rows {q} {e} {to} {own} {one} y u same h =
-        h ∙ (ap (λ (u : Weights). down_row s index v b top (n - 1) u q e to own one) same
-        ∙ ((let z : down_row s index v b top (n - 1) w q e to own one ≡ goes_on s index v b top (n - 1) w x = rw y in z) ∙ down_goes))
+    pub down_rows : {here : Row} {r : Measured} → x ≡ Ok here → (u : Weights) → u ≡ w
+        → r ≡ down_row s index v b top (n - 1) u here.first here.last here.done.end here.done.length here.done.cost → r ≡ down_at s index v b top n w k at sum cost
+    down_rows {here} y u same h =
+        h ∙ (ap (λ (u : Weights). down_row s index v b top (n - 1) u here.first here.last here.done.end here.done.length here.done.cost) same
+        ∙ ((let z : down_row s index v b top (n - 1) w here.first here.last here.done.end here.done.length here.done.cost ≡ goes_on s index v b top (n - 1) w x = rw y in z) ∙ down_goes))
 
 -- What was read, by what was measured of it.
 module _ (f : Translation) (top j : ℕ) where

@@ -1,4 +1,6 @@
 -- A turn of the loop over rows: what is left to measure stays the same.
+use Rattle.tree_reader.specs.declared.node.ReadError.{ReadError}
+use Rattle.tree_reader.specs.declared.node.ReadError.TheVariants.{Deep}
 use Prim.Native.Nat.{ℕ, ◌+◌, ◌*◌, ◌-◌, ◌<◌, ◌≤◌}
 use mathlib.Core.Path.{◌≡◌, refl, sym, ap, ◌∙◌}
 use mathlib.Core.Bool.{true, false}
@@ -11,13 +13,12 @@ use lib.Dec.{eqb}
 use borrow.Author.Tests.{eqb-true, eqb-false}
 use Rattle.format_fields.proofs.Truth.{by_test}
 use Rattle.tree_reader.specs.Inner.Positions.{KindsIn}
-use Rattle.run_measure.specs.declared.measure.Measured.{Measured}
-use Rattle.run_measure.specs.declared.measure.Measured.TheVariants.{End, Deep, Broken}
-use Rattle.run_measure.specs.declared.measure.Step.{Step}
-use Rattle.run_measure.specs.declared.measure.Step.TheVariants as Step
+use Rattle.std.specs.Prelude.{Ok, Err}
+use Rattle.run_measure.specs.declared.measure.Row.{Row}
+use Rattle.run_measure.specs.Inner.Measuring.{Measured}
 use Rattle.run_measure.specs.Inner.Weighing.{Weights, window, KeptBelow}
-use Rattle.run_measure.specs.Inner.Descent.{Weighing, down_row, out_of_levels, unwind, Waiting, StepIn}
-use Rattle.run_measure.proofs.Laws.{Goes, step_row, rows_start, rows_done, rows_back, rows_deep, rows_broken, rows_on, rows_down}
+use Rattle.run_measure.specs.Inner.Descent.{Step, measured, Weighing, down_row, out_of_levels, unwind, Waiting, StepIn}
+use Rattle.run_measure.proofs.Laws.{Goes, step_row, rows_start, rows_done, rows_back, rows_deep, rows_err, rows_on, rows_down}
 use Rattle.run_measure.specs.Inner.Entering.{NoneFrom, OnlyBy, Wiped}
 use Rattle.run_measure.proofs.Windows.{kept_then, window_kept, windows_below, window_room}
 
@@ -70,7 +71,7 @@ module _ (s index : List ℕ) (v : Weighing) (b : List ℕ) (top levels width : 
 
   module _ {answer : Measured} {firsts lasts weights : List ℕ} {d base q e to sum cost : ℕ}
       (o : Open s index v b top levels width answer firsts lasts weights d base q e to sum cost) where
-    pub open_done : e ≤ q → d ≡ 0 → End to sum cost ≡ answer
+    pub open_done : e ≤ q → d ≡ 0 → measured to sum cost ≡ answer
     open_done h y = sym (rows_done s index v b top levels firsts lasts (rows_of width weights) d q e to sum cost h y) ∙ o.comes
 
     -- The rows above have stayed.
@@ -93,10 +94,6 @@ module _ (s index : List ℕ) (v : Weighing) (b : List ℕ) (top levels width : 
               (λ j l. window_kept width weights then (base - width) (d - 1) j below.1 l (let z : base ≡ base - width + width = omega arith in rw (← z) kept)) refl) ∙ o.comes;
         }
 
-    -- The window before the open row's, which is taken when it ends.
-    pub open_base : (d ≡ 0 → ⊥) → width ≤ base
-    open_base y = (windows_below width d y o.based).0
-
     -- There is room for the weights of an operand, and of what belongs to it.
     pub open_room : levels < 64 → base + width + 2 * width ≤ length weights
     open_room fits = window_room width weights d o.based o.long (omega (arith, o.shallow))
@@ -105,7 +102,7 @@ module _ (s index : List ℕ) (v : Weighing) (b : List ℕ) (top levels width : 
       pub open_in : length s ≤ 1024 → (q < length s) × (get_or s q 0 < 32) × (q < 1024) × (e ≤ 1024)
       open_in short = row_in s q e short o.kinds more
 
-      pub open_deep : out_of_levels index (get_or s q 0) (levels - d) ≡ true → Deep ≡ answer
+      pub open_deep : out_of_levels index (get_or s q 0) (levels - d) ≡ true → Err Deep ≡ answer
       open_deep y = sym (rows_deep s index v b top levels firsts lasts (rows_of width weights) d q e to sum cost more y) ∙ o.comes
 
       -- The weights of the operand were worked out, and then those of what belongs to it.
@@ -115,19 +112,19 @@ module _ (s index : List ℕ) (v : Weighing) (b : List ℕ) (top levels width : 
         part_is : window width mid (base + width) ≡ v q (rows_of width weights d)
         part_is = mid-is ∙ ap (λ (i : ℕ). v q (window width weights i)) o.based
 
-        pub open_broken : x ≡ Step.Broken → Broken ≡ answer
-        open_broken y =
-            sym (rows_broken s index v b top levels firsts lasts (rows_of width weights) d q e to sum cost more (window width mid (base + width)) below part_is x goes y) ∙ o.comes
+        pub open_err : {why : ReadError} → x ≡ Err why → Err why ≡ answer
+        open_err y =
+            sym (rows_err s index v b top levels firsts lasts (rows_of width weights) d q e to sum cost more (window width mid (base + width)) below part_is x goes y) ∙ o.comes
 
-        module _ {first last t n u : ℕ} (ex : x ≡ Step.Row first last t n u) (within : StepIn s (length b) top to x) (then : List ℕ)
+        module _ {here : Row} (ex : x ≡ Ok here) (within : StepIn s (length b) top to x) (then : List ℕ)
             (kept : KeptBelow weights then (base + width)) where
-          found : (to < t) × (t ≤ length b) × (n ≤ top) × (u ≤ top) × KindsIn s first last
+          found : (to < here.done.end) × (here.done.end ≤ length b) × (here.done.length ≤ top) × (here.done.cost ≤ top) × KindsIn s here.first here.last
           found = step_row s (length b) top to x ex within
 
           stays : (j : ℕ) → j ≤ d → rows_of width then j ≡ rows_of width weights j
           stays j h = window_kept width weights then base d j o.based h kept
 
-          pub open_on : last ≤ first → Open s index v b top levels width answer firsts lasts then d base (q + 1) e t n u
+          pub open_on : here.last ≤ here.first → Open s index v b top levels width answer firsts lasts then d base (q + 1) e here.done.end here.done.length here.done.cost
           open_on h =
               record {
                 inside = found.1;
@@ -158,7 +155,7 @@ module _ (s index : List ℕ) (v : Weighing) (b : List ℕ) (top levels width : 
                 let y : j ≡ d → ⊥ = eqb-false j d t in
                 rw (get_or-set_other firsts d j (q + 1) 0 y, get_or-set_other lasts d j e 0 y) (o.waiting j (omega arith)))
 
-            pub open_down : Open s index v b top levels width answer (set firsts d (q + 1)) (set lasts d e) then (d + 1) (base + width) first last t n u
+            pub open_down : Open s index v b top levels width answer (set firsts d (q + 1)) (set lasts d e) then (d + 1) (base + width) here.first here.last here.done.end here.done.length here.done.cost
             open_down =
                 let hf : d < length firsts = omega (arith, o.first_long) in
                 let hl : d < length lasts = omega (arith, o.last_long) in

@@ -97,14 +97,6 @@ module _ (ws : List ℕ) (from width key n top before : ℕ) (narrow : width ≤
   share_zero : (x : ℕ) → x ≤ top → (y : ℕ) → y ≡ 0 → x ≡ capped top (x + y)
   share_zero x l y e = omega arith
 
-  pub one_use : width ≤ key % 256 → Shared ws ws from width key n top before before
-  one_use h = record {
-    kept = kept_all ws (from + width);
-    behind = λ i l. refl;
-    adds = λ m l. share_zero (get_or ws (from + width + m) 0) (under m l) _ (rw (ne_eqb (key % 256) m (λ e. omega arith)));
-    sums = λ e. e;
-  }
-
   module _ {at c weight after : ℕ} (room : from + 2 * width ≤ length ws) (k : key % 256 < width) (ea : at ≡ from + width + key % 256)
       (ew : weight ≡ window width ws from (key / 256)) (ec : c ≡ capped top (get_or ws at 0 + weight * n)) (er : after ≡ capped top (before + weight * n)) where
     adds : (m : ℕ) → m < width
@@ -137,11 +129,9 @@ module _ (ws : List ℕ) (from width key n top before : ℕ) (narrow : width ≤
 
 -- before_entry
 pub before_none : (e next : ℕ) → e < next + 3 → 0 ≡ before e next
-unfolding before
 before_none e next h = cc (lt-ltb e (next + 3) h)
 
 pub before_some : (e next : ℕ) → next + 3 ≤ e → next ≡ before e next
-unfolding before
 before_some e next h = cc (le-ltb e (next + 3) h)
 
 pub before_less : (e next : ℕ) → 1024 ≤ e → before e next < e
@@ -266,9 +256,6 @@ module _ (entries : List ℕ) (head : ℕ) (old : List ℕ) (from width top sum 
           rw (eo, ex) (omega arith);
       sums = λ y. s.1.sums (w.sums y);
     }
-
-    pub enter_less : o < e
-    enter_less = let z = before_less e next some in omega arith
 
 -- weigh
 module _ (counts entries : List ℕ) (q : ℕ) (ws one vs : List ℕ) (from width top : ℕ) (some : 0 < width) (narrow : width ≤ 256)

@@ -4,10 +4,9 @@ use mathlib.Core.Path.{◌≡◌, ◌∙◌}
 use mathlib.Core.Bool.{cond}
 use mathlib.Core.List.{List}
 use native.Mathlib.Omega.{arith}
-use lib.ListN.{length, get_or, set, length-set}
-use lib.Seq.{get_or-set_same, get_or-set_other}
+use lib.ListN.{get_or}
 use lib.Dec.{ltb, eqb}
-use borrow.Author.Tests.{lt-ltb, ltb-true, ltb-false, eqb-true, eqb-false, eq-eqb, ne_eqb}
+use borrow.Author.Tests.{lt-ltb, ltb-true, ltb-false, eqb-true, eqb-false, ne_eqb}
 use Rattle.format_fields.proofs.Truth.{by_test}
 use Rattle.run_measure.specs.Inner.Sizes.{weighted, capped}
 use Rattle.run_measure.specs.Inner.Counting.{before, linked, times_at}
@@ -15,28 +14,11 @@ use Rattle.run_measure.specs.Inner.Weighing.{window, weigh_at, KeptBelow}
 use Rattle.run_measure.specs.Inner.Entering.{NoneFrom, OnlyBy, Wiped}
 use Rattle.run_measure.proofs.Sums.{weighted_add}
 use Rattle.run_measure.proofs.Entries.{linked_none}
-use Rattle.run_measure.proofs.Windows.{kept_all, kept_then, before_less, one_weight, linked_step, linked_turn, linked_left}
+use Rattle.run_measure.proofs.Windows.{kept_then, before_less, one_weight, linked_step, linked_turn, linked_left}
 
 -- wipe_one
 abbrev Less : List ℕ → List ℕ → Type 0
 Less ws vs = (i : ℕ) → get_or ws i 0 ≡ 0 → get_or vs i 0 ≡ 0
-
-module _ (ws : List ℕ) (at width number : ℕ) where
-  pub wipe_past : width ≤ number → KeptBelow ws ws at × (Less ws ws × (number < width → get_or ws (at + number) 0 ≡ 0))
-  wipe_past h = (kept_all ws at, (λ i e. e, λ l. absurd (omega arith)))
-
-  pub wipe_set : at + width ≤ length ws → number < width
-      → KeptBelow ws (set ws (at + number) 0) at × (Less ws (set ws (at + number) 0) × (number < width → get_or (set ws (at + number) 0) (at + number) 0 ≡ 0))
-  wipe_set room h = (
-    record { long = length-set ws (at + number) 0; same = λ i l. get_or-set_other ws (at + number) i 0 0 (λ e. omega arith) },
-    (less, λ l. get_or-set_same ws (at + number) 0 0 (omega arith)),
-  )
-    where
-      less : Less ws (set ws (at + number) 0)
-      less i e =
-          by_test (eqb i (at + number))
-          (λ t. let y = eqb-true i (at + number) t in rw y (get_or-set_same ws (at + number) 0 0 (omega arith)))
-          (λ t. get_or-set_other ws (at + number) i 0 0 (eqb-false i (at + number) t) ∙ e)
 
 -- wipe: what is not zero yet, the entries that are left count for.
 pub record Wiping (entries old ws : List ℕ) (at width e : ℕ) : Type 0 where
@@ -47,18 +29,8 @@ pub record Wiping (entries old ws : List ℕ) (at width e : ℕ) : Type 0 where
   pub only : OnlyBy entries e ws at width
 
 module _ (entries old : List ℕ) (at width : ℕ) where
-  pub wipe_start : {whole : List ℕ} (head : ℕ) {e : ℕ} → NoneFrom whole (at + width) → OnlyBy entries head whole at width
-      → KeptBelow whole old at × (Less whole old × (0 < width → get_or old (at + 0) 0 ≡ 0)) → 0 < width → e ≡ head → e < 65536 → Wiping entries old old at width e
-  wipe_start head none only s some ee l = record {
-    kept = kept_all old at;
-    none = λ i h. s.1.0 i (none i h);
-    low = l;
-    first = s.1.1 some;
-    only = λ m a b z. s.1.0 (at + m) (only m a b (rw ee at z));
-  }
-
-  pub wipe_done : (whole : List ℕ) {ws : List ℕ} {e : ℕ} → KeptBelow whole old at → e < 1024 → Wiping entries old ws at width e → Wiped whole ws at
-  wipe_done whole {ws} {e} before h o = record { kept = kept_then before o.kept; none = all }
+  pub wipe_done : {ws : List ℕ} {e : ℕ} → e < 1024 → Wiping entries old ws at width e → Wiped old ws at
+  wipe_done {ws} {e} h o = record { kept = o.kept; none = all }
     where
       all : NoneFrom ws at
       all i l =
@@ -94,26 +66,15 @@ module _ (entries old : List ℕ) (at width : ℕ) where
           (λ t. s.1.0 (at + m) (w.only m a b (λ j. other m j (eqb-false (key % 256) m t) (omega arith) (z j))));
     }
 
-    pub wipe_less : after < e
-    wipe_less = let z = before_less e next some in omega arith
-
--- own_one
-pub own_pass : (top sum key x : ℕ) → sum ≤ top → (key % 256 ≡ 0 → ⊥) → sum ≡ capped top (sum + cond (eqb (key % 256) 0) x 0)
-own_pass top sum key x l h = rw (ne_eqb (key % 256) 0 h) (omega arith)
-
-pub own_adds : (top sum key n : ℕ) (x : ℕ) {weight more : ℕ} → key % 256 ≡ 0 → weight ≡ x → more ≡ capped top (sum + weight * n)
-    → more ≡ capped top (sum + cond (eqb (key % 256) 0) (x * n) 0)
-own_adds top sum key n x h ew em = rw (eq-eqb (key % 256) 0 h, ← ew) em
-
--- own_of: the sum and what the entries that are left count for number 0.
-pub record Owning (counts entries : List ℕ) (q : ℕ) (ws : List ℕ) (from width top e sum : ℕ) : Type 0 where
+-- add_own: the sum and what the entries that are left count for number 0.
+pub record Owning (counts entries : List ℕ) (q : ℕ) (ws : List ℕ) (from width top before e sum : ℕ) : Type 0 where
   pub under : sum ≤ top
   pub low : e < 65536
-  pub left : capped top (sum + weighted (window width ws from) (λ j. linked e entries e (256 * j + 0))) ≡ weigh_at (counts, entries) top width q (window width ws from) 0
+  pub left : capped top (sum + weighted (window width ws from) (λ j. linked e entries e (256 * j + 0))) ≡ capped top (before + weigh_at (counts, entries) top width q (window width ws from) 0)
 
-module _ (counts entries : List ℕ) (q : ℕ) (ws : List ℕ) (from width top : ℕ) where
+module _ (counts entries : List ℕ) (q : ℕ) (ws : List ℕ) (from width top first : ℕ) where
   pub own_start : {c e sum : ℕ} → 0 < width → c ≡ get_or counts q 0 → e ≡ get_or entries q 0 → e < 65536
-      → sum ≡ capped top (0 + cond (eqb (0 % 256) 0) (window width ws from (0 / 256) * c) 0) → Owning counts entries q ws from width top e sum
+      → sum ≡ capped top (first + cond (eqb (0 % 256) 0) (window width ws from (0 / 256) * c) 0) → Owning counts entries q ws from width top first e sum
   unfolding weigh_at times_at
   own_start {c} {e} {sum} some ec ee l es = record {
     under = omega arith;
@@ -125,17 +86,18 @@ module _ (counts entries : List ℕ) (q : ℕ) (ws : List ℕ) (from width top :
         rw (ee, lt-ltb 0 width some) (omega arith);
   }
 
-  pub own_done : {e sum : ℕ} → e < 1024 → Owning counts entries q ws from width top e sum → sum ≡ weigh_at (counts, entries) top width q (window width ws from) 0
+  pub own_done : {e sum : ℕ} → e < 1024 → Owning counts entries q ws from width top first e sum
+      → sum ≡ capped top (first + weigh_at (counts, entries) top width q (window width ws from) 0)
   own_done {e} h o =
       let z = linked_left entries (window width ws from) e 0 h in
       let y = o.left in
       let x = o.under in
       omega arith
 
-  module _ {e key n next after sum more : ℕ} (w : Owning counts entries q ws from width top e sum) (some : 1024 ≤ e)
+  module _ {e key n next after sum more : ℕ} (w : Owning counts entries q ws from width top first e sum) (some : 1024 ≤ e)
       (ek : key ≡ get_or entries (e + 1) 0) (small : key < 65536) (en : n ≡ get_or entries (e + 2) 0) (ex : next ≡ get_or entries e 0) (eo : after ≡ before e next)
       (s : more ≡ capped top (sum + cond (eqb (key % 256) 0) (window width ws from (key / 256) * n) 0)) where
-    pub own_next : Owning counts entries q ws from width top after more
+    pub own_next : Owning counts entries q ws from width top first after more
     own_next = record {
       under = omega arith;
       low = let z = before_less e next some in let y = w.low in omega arith;
@@ -146,6 +108,3 @@ module _ (counts entries : List ℕ) (q : ℕ) (ws : List ℕ) (from width top :
           ≡ cond (eqb (get_or entries (e + 1) 0 % 256) 0) (window width ws from (get_or entries (e + 1) 0 / 256) * get_or entries (e + 2) 0) 0 = rw (← ek, ← en) in
           rw (eo, ex) (omega arith);
     }
-
-    pub own_less : after < e
-    own_less = let z = before_less e next some in omega arith

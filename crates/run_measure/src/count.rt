@@ -4,51 +4,49 @@ ghost use Rattle.format_fields.specs.Lists.{all};
 ghost use Rattle.format_fields.specs.Inner.Places.{is_whole, field_end, places};
 ghost use Rattle.run_measure.specs.Inner.Counting.{amount_of, slot_of, by_of, step_of, count_sign, count_code, count_clause, count_all, Below, wider_at, width_of};
 
-use crate::table::{add_at, add_entry, count_at};
-use format_fields::bytes::{byte_at, pair_at, to_usize};
-use format_fields::walk::field_end;
+use crate::table::{FIRST_ENTRY, add_at, add_entry, count_at};
+use format_fields::bytes::{byte_at, pair_at};
+use format_fields::walk::{KINDS, NUMBERED, field_end};
+use format_translation::body::{CLAUSE, NUMBERED_CLAUSE};
+use format_translation::clause::{CLAUSE_HEAD, NUMBERED_HEAD};
+use tree_reader::node::{ARGUMENT, NUMBERED_ARGUMENT, TOKEN};
 
 // What a sign counts for: a token two bytes, a name one, an argument one use.
 fn amount(sign: u8) -> u16
     ensures { (result ≡ amount_of sign) × (result ≤ 2) }
 {
-    if sign == 2 { 2 } else { 1 }
+    if sign == TOKEN { 2 } else { 1 }
 }
 
 // Where it counts: a use at the argument's number, what the code writes itself at 0.
 fn slot(sign: u8, number: u8) -> usize
     ensures { (result ≡ slot_of sign number) × (result < 256) }
 {
-    if sign == 3 {
-        return to_usize(number);
+    match sign {
+        ARGUMENT | NUMBERED_ARGUMENT => usize::from(number),
+        _ => 0,
     }
-    if sign == 4 {
-        return to_usize(number);
-    }
-    0
 }
 
 // By which number: that of a use behind 04, else 0.
 fn by(sign: u8, number: u8) -> usize
     ensures { (result ≡ by_of sign number) × (result < 256) }
 {
-    if sign == 4 {
-        return to_usize(number);
+    if sign == NUMBERED_ARGUMENT {
+        usize::from(number)
+    } else {
+        0
     }
-    0
 }
 
 // How many bytes it has, with what belongs to it.
 fn step(sign: u8) -> usize
     ensures { (result ≡ step_of sign) × (2 ≤ result) × (result ≤ 3) }
 {
-    if sign == 2 {
-        return 3;
+    match sign {
+        TOKEN | NUMBERED_ARGUMENT => 3,
+        _ => 2,
     }
-    if sign == 4 {
-        return 3;
-    }
-    2
 }
 
 // Counts the sign at p, in a clause whose number gives keys from `first` on. Most are 03 in a clause of number 0.
@@ -64,19 +62,23 @@ fn count_sign(
     ensures { (counts.new, entries.new) ≡ count_sign body.now p own first (counts.old, entries.old) }
 {
     let sign = byte_at(body, p);
-    if first == 0 {
-        if sign == 3 {
-            add_at(counts, own + to_usize(byte_at(body, p + 1)), 1);
-            return;
-        }
+    if first == 0 && sign == ARGUMENT {
+        add_at(counts, own + usize::from(byte_at(body, p + 1)), 1);
+        return;
     }
     let q = own + slot(sign, byte_at(body, p + 1));
     let key = first + by(sign, byte_at(body, p + 2));
     if key == 0 {
         add_at(counts, q, amount(sign));
-        return;
+    } else {
+        add_entry(
+            entries,
+            FIRST_ENTRY + p / 2 * 3,
+            q,
+            key as u16,
+            amount(sign),
+        );
     }
-    add_entry(entries, 1024 + p / 2 * 3, q, key as u16, amount(sign));
 }
 
 // Counts the code that stands in the body from `from` up to `to`: its own bytes at `own`, the uses behind.
@@ -113,25 +115,22 @@ fn count_clause(
     ensures is { (counts.new, entries.new) ≡ count_clause body.now index.now p (counts.old, entries.old) }
     ensures low { (j : ℕ) → get_or counts.new j 0 ≤ e }
 {
-    let place = count_at(index, 32 + pair_at(body, p + 3));
+    let place = count_at(index, KINDS + pair_at(body, p + 3));
     if place == 0 {
         return;
     }
-    let tag = byte_at(body, p);
-    if tag == 0x23 {
-        count_code(body, p + 5, e, place + 3, 0, counts, entries);
-        return;
-    }
-    if tag == 0x29 {
-        count_code(
+    match byte_at(body, p) {
+        CLAUSE => count_code(body, p + CLAUSE_HEAD, e, place + 3, 0, counts, entries),
+        NUMBERED_CLAUSE => count_code(
             body,
-            p + 6,
+            p + NUMBERED_HEAD,
             e,
             place + 3,
-            256 * to_usize(byte_at(body, p + 5)),
+            256 * usize::from(byte_at(body, p + CLAUSE_HEAD)),
             counts,
             entries,
-        );
+        ),
+        _ => {}
     }
 }
 
@@ -153,14 +152,10 @@ fn wider(body: &[u8], p: usize, width: usize) -> usize
     requires { (p < 4096) × (width ≤ 256) }
     ensures { (result ≡ wider_at body.now p width) × (width ≤ result) × (result ≤ 256) }
 {
-    if byte_at(body, p) != 0x28 {
+    if byte_at(body, p) != NUMBERED {
         return width;
     }
-    let number = to_usize(byte_at(body, p + 4));
-    if number < width {
-        return width;
-    }
-    number + 1
+    width.max(usize::from(byte_at(body, p + 4)) + 1)
 }
 
 // How many weights a kind may have: one more than the largest number of a mapping of the body.

@@ -12,121 +12,129 @@ ghost use Rattle.run_measure.specs.Inner.Descent.{leaf_step, down_at, down_row, 
 ghost use Rattle.run_measure.specs.Inner.Learning.{Learnt, Decides};
 
 use crate::capped::{add, add_share};
-use crate::weigh::{begin, own_of, weigh, wipe};
-use format_fields::bytes::{pair_in, to_usize};
+use crate::weigh::{Weigher, begin};
 use tree_reader::ends::keep_end;
 use tree_reader::index::TABLE;
-use tree_reader::node::{Read, Syntax, place_at, production_place, token};
+use tree_reader::node::{Read, ReadError, Syntax, place_at, production_place, token};
+use tree_reader::operands::{first_operand, last_operand};
 
-// How often the end of a tree may be asked for: several numbers may use it.
-const OFTEN: usize = 2;
-
-// The position after a tree, the length of its run and what it costs, both up to a top; one level too many; or bytes that
-// are no such tree.
-#[derive(Clone, Copy)]
-pub enum Measured {
-    End(usize, usize, usize),
-    Deep,
-    Broken,
+// What was measured of a tree: the position after it, the length of its run and what it costs, both up to a top.
+#[derive(Clone, Copy, Debug, PartialEq, Eq)]
+pub struct Figures {
+    pub end: usize,
+    pub length: usize,
+    pub cost: usize,
 }
 
-// What stands where a tree begins: a row of operands, whose kinds stand in the source from the first number up to the
-// second, where the operands begin, and length and cost so far; or no such tree. A token's row is empty.
-#[derive(Clone, Copy)]
-pub enum Step {
-    Row(usize, usize, usize, usize, usize),
-    Broken,
+// The measure of a tree, or why there is none.
+pub type Measured = Result<Figures, ReadError>;
+
+// What stands where a tree begins: a row of operands, whose kinds stand in the source from `first` up to `last`, and what is
+// measured so far, up to where they begin. A token's row is empty.
+#[derive(Clone, Copy, Debug, PartialEq, Eq)]
+struct Row {
+    first: usize,
+    last: usize,
+    done: Figures,
 }
 
 // Whether a tree of the kind is one level too many: no level is left, and the kind is no class.
-pub fn out_of_levels(index: &[u16; TABLE], kind: u8, left: usize) -> bool
+fn out_of_levels(index: &[u16; TABLE], kind: u8, left: usize) -> bool
     requires { kind < 32 }
     ensures { result ≡ out_of_levels index.now kind left }
 {
-    if left != 0 {
-        return false;
-    }
-    place_at(index, to_usize(kind)) == 0
+    left == 0 && place_at(index, usize::from(kind)) == 0
 }
 
 // A leaf of a tree is a token, which a run keeps: two bytes.
-pub fn leaf(read: Read, total: usize, sum: usize, cost: usize, top: usize) -> Step
-    requires { sum ≤ top }
-    ensures { result ≡ leaf_step top total sum cost read }
+fn leaf(read: Read, total: usize, done: Figures, top: usize) -> Result<Row, ReadError>
+    requires { done.length ≤ top }
+    ensures { result ≡ leaf_step top total done.length done.cost read }
 {
-    match read {
-        Read::End(e) => Step::Row(0, 0, e, add_share(sum, total, 2, top), cost),
-        Read::Deep => Step::Broken,
-        Read::Broken => Step::Broken,
-    }
+    Ok(Row {
+        first: 0,
+        last: 0,
+        done: Figures {
+            end: read?,
+            length: add_share(done.length, total, 2, top),
+            cost: done.cost,
+        },
+    })
 }
 
-// What stands where a tree of the kind begins, whose weights stand from `from` on and come to the total, and what it adds itself.
-fn step_at(
+// What stands where a tree of the kind begins, whose weights stand from `from` on and come to the total, and what it adds itself to
+// what is measured before it.
+#[inline(always)]
+fn step_at<W: Weigher>(
     source: &[u8],
     index: &[u16; TABLE],
     counts: &[u16; 1024],
     entries: &[u16],
     kind: u8,
     tree: &[u8],
-    at: usize,
+    done: Figures,
     total: usize,
-    sum: usize,
-    cost: usize,
     top: usize,
     weights: &[usize],
     from: usize,
     width: usize,
-) -> Step
-    requires { Sound index.now source.now × (kind < 32) × (at ≤ length tree.now) × (sum ≤ top) × (cost ≤ top)
+) -> Result<Row, ReadError>
+    requires { W.Fits entries.now width × Sound index.now source.now × (kind < 32) × (done.end ≤ length tree.now) × (done.length ≤ top) × (done.cost ≤ top)
         × (0 < width) × (width ≤ 256) × (from + width ≤ length weights.now) × (total ≡ sum_of top (window width weights.now from)) }
     ensures is { (n : ℕ) → goes_on source.now index.now (weigh_at (counts.now, entries.now) top width) tree.now top n
         (window width weights.now from) result
         ≡ down_at source.now index.now (weigh_at (counts.now, entries.now) top width) tree.now top (suc n)
-        (window width weights.now from) kind at sum cost }
-    ensures within { StepIn source.now (length tree.now) top at result }
-    ensures decides { Decides source.now index.now tree.now kind at result }
+        (window width weights.now from) kind done.end done.length done.cost }
+    ensures within { StepIn source.now (length tree.now) top done.end result }
+    ensures decides { Decides source.now index.now tree.now kind done.end result }
     ensures childless { Childless (get_or index.now kind 0) result }
 {
-    let class = place_at(index, to_usize(kind));
-    let place = production_place(Syntax::Tree, index, class, kind, tree, at);
+    let class = place_at(index, usize::from(kind));
+    let place = production_place(Syntax::Tree, index, class, kind, tree, done.end);
     if place == 0 {
-        return leaf(token(source, class, tree, at), total, sum, cost, top);
+        return leaf(token(source, class, tree, done.end), total, done, top);
     }
-    let own = own_of(counts, entries, place + 3, weights, from, width, top);
-    Step::Row(
-        place + 4,
-        place + 2 + pair_in(source, place),
-        at + 1,
-        add(sum, own, top),
-        add(cost, total, top),
-    )
+    Ok(Row {
+        first: first_operand(place),
+        last: last_operand(source, place),
+        done: Figures {
+            end: done.end + 1,
+            length: W::add_own(
+                counts,
+                entries,
+                place + 3,
+                weights,
+                from,
+                width,
+                done.length,
+                top,
+            ),
+            cost: add(done.cost, total, top),
+        },
+    })
 }
 
 // The operands of a row and all that stands below them. The rows above wait in two tables, the outermost first, and in a
 // third stands where the operand of each row starts; where it ends is kept. The weights of each row stand in a window of
 // their own, which is set back to zero when the row is done. The index is the front of a longer table.
-fn measure_rows(
+fn measure_rows<W: Weigher>(
     source: &[u8],
     index: &[u16; TABLE],
     counts: &[u16; 1024],
     entries: &[u16],
-    from: usize,
-    stop: usize,
+    outermost: Row,
     tree: &[u8],
-    at: usize,
     levels: usize,
-    own: usize,
-    one: usize,
     top: usize,
     weights: &mut [usize],
     width: usize,
     ends: &mut [u32],
 ) -> Measured
-    requires { Sound index.now source.now × KindsIn source.now from stop × (at ≤ length tree.now) × (own ≤ top) × (one ≤ top) × (levels < 64)
+    requires { W.Fits entries.now width × Sound index.now source.now × KindsIn source.now outermost.first outermost.last × (levels < 64)
+        × (outermost.done.end ≤ length tree.now) × (outermost.done.length ≤ top) × (outermost.done.cost ≤ top)
         × (0 < width) × (width ≤ 256) × (66 * width ≤ length weights.old) × NoneFrom weights.old width }
     ensures is { (result ≡ down_row source.now index.now (weigh_at (counts.now, entries.now) top width) tree.now top levels
-        (window width weights.old 0) from stop at own one)
+        (window width weights.old 0) outermost.first outermost.last outermost.done.end outermost.done.length outermost.done.cost)
         × EndsIn (length tree.now) top result }
     ensures learnt { Learnt source.now index.now tree.now ends.old ends.new }
 {
@@ -135,71 +143,63 @@ fn measure_rows(
     let mut starts = [0usize; 64];
     let mut depth = 0;
     let mut base = 0;
-    let mut q = from;
-    let mut end = stop;
-    let mut to = at;
-    let mut sum = own;
-    let mut cost = one;
+    let mut row = outermost;
     loop {
-        if end <= q {
+        if row.last <= row.first {
             if depth == 0 {
-                return Measured::End(to, sum, cost);
+                return Ok(row.done);
             }
             depth -= 1;
-            q = firsts[depth] as usize;
-            end = lasts[depth] as usize;
-            wipe(entries, q - 1, weights, base, width);
+            row.first = usize::from(firsts[depth]);
+            row.last = usize::from(lasts[depth]);
+            W::wipe(entries, row.first - 1, weights, base, width);
             base -= width;
-            keep_end(ends, source[q - 1], starts[depth], to, OFTEN);
+            keep_end(
+                ends,
+                source[row.first - 1],
+                starts[depth],
+                row.done.end,
+                W::often(weights, base),
+            );
             continue;
         }
-        if out_of_levels(index, source[q], levels - depth) {
-            return Measured::Deep;
+        let kind = source[row.first];
+        if out_of_levels(index, kind, levels - depth) {
+            return Err(ReadError::Deep);
         }
-        let total = weigh(counts, entries, q, weights, base, width, top);
-        starts[depth] = to;
-        match step_at(
+        let total = W::weigh(counts, entries, row.first, weights, base, width, top);
+        starts[depth] = row.done.end;
+        let found = step_at::<W>(
             source,
             index,
             counts,
             entries,
-            source[q],
+            kind,
             tree,
-            to,
+            row.done,
             total,
-            sum,
-            cost,
             top,
             weights,
             base + width,
             width,
-        ) {
-            Step::Broken => {
-                return Measured::Broken;
-            }
-            Step::Row(first, last, e, n, c) => {
-                to = e;
-                sum = n;
-                cost = c;
-                q += 1;
-                if last <= first {
-                    wipe(entries, q - 1, weights, base + width, width);
-                    continue;
-                }
-                firsts[depth] = q as u16;
-                lasts[depth] = end as u16;
-                depth += 1;
-                base += width;
-                q = first;
-                end = last;
-            }
+        )?;
+        if found.last <= found.first {
+            W::wipe(entries, row.first, weights, base + width, width);
+            row.first += 1;
+            row.done = found.done;
+            continue;
         }
+        firsts[depth] = (row.first + 1) as u16;
+        lasts[depth] = row.last as u16;
+        depth += 1;
+        base += width;
+        row = found;
     }
 }
 
 // The tree of the kind at a position, read as the source has it, and the length and cost of its run by a number, up to a top.
 // The weights are lent all zero.
-pub fn measure(
+pub fn measure<W: Weigher>(
     source: &[u8],
     index: &[u16; TABLE],
     counts: &[u16; 1024],
@@ -214,7 +214,7 @@ pub fn measure(
     width: usize,
     ends: &mut [u32],
 ) -> Measured
-    requires { Sound index.now source.now × (kind < 32) × (at ≤ length tree.now) × (0 < levels) × (levels ≤ 64)
+    requires { W.Fits entries.now width × Sound index.now source.now × (kind < 32) × (at ≤ length tree.now) × (0 < levels) × (levels ≤ 64)
         × (0 < width) × (width ≤ 256) × (66 * width ≤ length weights.old) × ((j : ℕ) → get_or weights.old j 0 ≡ 0) }
     ensures is { (f : Translation) (u : ℕ) → Indexed index.now source.now f.source
         → Counted (counts.now, entries.now) width index.now f → mapping_of f.body kind number ≡ some u
@@ -223,26 +223,25 @@ pub fn measure(
     ensures learnt { Learnt source.now index.now tree.now ends.old ends.new }
 {
     let total = begin(weights, number, width, top);
-    match step_at(
-        source, index, counts, entries, kind, tree, at, total, 0, 0, top, weights, 0, width,
-    ) {
-        Step::Broken => Measured::Broken,
-        Step::Row(from, stop, start, own, cost) => measure_rows(
-            source,
-            index,
-            counts,
-            entries,
-            from,
-            stop,
-            tree,
-            start,
-            levels - 1,
-            own,
-            cost,
-            top,
-            weights,
-            width,
-            ends,
-        ),
-    }
+    let nothing = Figures {
+        end: at,
+        length: 0,
+        cost: 0,
+    };
+    let row = step_at::<W>(
+        source, index, counts, entries, kind, tree, nothing, total, top, weights, 0, width,
+    )?;
+    measure_rows::<W>(
+        source,
+        index,
+        counts,
+        entries,
+        row,
+        tree,
+        levels - 1,
+        top,
+        weights,
+        width,
+        ends,
+    )
 }

@@ -11,10 +11,12 @@ ghost use Rattle.run_measure.specs.Inner.Counting.{width_of};
 ghost use Rattle.run_measure.specs.Inner.Measuring.{Counted};
 
 use crate::count::count_all;
+use crate::table::FIRST_ENTRY;
+use format_translation::parts::TRANSLATION_LIMIT;
 
 // How many numbers the table of entries has, for a body with numbers: one for each position of the source, and three for
 // each sign of the body.
-pub const ENTRIES: usize = 7168;
+pub const ENTRIES: usize = FIRST_ENTRY + TRANSLATION_LIMIT / 2 * 3;
 
 // Makes the tables of what the body's clauses count, along the bytes of the source: what each code writes itself and how often
 // it uses each argument by each number. The source's index is given, and the tables are all zero before. A body without numbers,

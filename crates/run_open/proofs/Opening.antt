@@ -1,4 +1,5 @@
 -- Laws for opening a translation: its indexes in the front of a table, the parts that are lent, and a law for each return.
+use Rattle.std.specs.Prelude.{Err, Ok}
 use Prim.Native.Nat.{ℕ, zero, suc, ◌+◌, ◌*◌, ◌<◌, ◌≤◌}
 use mathlib.Core.Path.{◌≡◌, refl, sym, ap, ◌∙◌}
 use mathlib.Core.Bool.{not}
@@ -8,9 +9,7 @@ use lib.ListN.{length, get_or, take, drop, length-append, length-drop, length-ta
 use lib.Seq.{get_or-drop, get_or-take, get_or-append-add}
 use lib.Dec.{ltb, eqb}
 use borrow.Author.Tests.{lt-ltb, ltb-true, ltb-false, ne_eqb}
-use Rattle.outcome.specs.Outcome.{value}
-use Rattle.outcome.specs.declared.Outcome.{Outcome}
-use Rattle.outcome.specs.declared.Outcome.TheVariants.{Accepted, Refused}
+use Rattle.outcome.specs.Outcome.{value, Outcome}
 use Rattle.outcome.specs.declared.Reason.{Reason}
 use Rattle.format_fields.specs.Lists.{is_some}
 use Rattle.format_fields.proofs.Truth.{by_test}
@@ -27,7 +26,7 @@ use Rattle.run_table.specs.Inner.Table.{Ready, Checked}
 use Rattle.run_table.specs.Inner.Filling.{Begun}
 use Rattle.run_open.specs.Inner.Opened.{Prepared}
 
--- check_front: a part of what is all zero.
+-- open_translation: a part of what is all zero.
 pub part_zero : (n : ℕ) (o : List ℕ) → ((j : ℕ) → get_or o j 0 ≡ 0) → (j : ℕ) → get_or (take n o) j 0 ≡ 0
 part_zero n o clear j =
     by_test (ltb j n)
@@ -37,7 +36,7 @@ part_zero n o clear j =
     let l = length-take n o in
     get_or-eq_default (take n o) 0 (omega arith))
 
--- check_front: the indexes were made in the front of a table that was all zero.
+-- open_translation: the indexes were made in the front of a table that was all zero.
 pub front_begun : (s g o v : List ℕ) → length o ≡ 26184 → ((j : ℕ) → get_or o j 0 ≡ 0) → length v ≡ 16448 → Built 0x11 s v 0 → Built 0x11 g v 8224 → Begun s g (v ++ drop 16448 o)
 front_begun s g o v long clear short first second =
     let n = length-append v (drop 16448 o) in
@@ -53,17 +52,14 @@ front_begun s g o v long clear short first second =
     }
 
 -- open_translation
-pub accepted_is : (s : List ℕ) (f : Translation) → translation_of s ≡ value f → {out : Outcome} → out ≡ Accepted 0 → out ≡ check_translation s
+pub accepted_is : (s : List ℕ) (f : Translation) → translation_of s ≡ value f → {out : Outcome} → out ≡ Ok 0 → out ≡ check_translation s
 unfolding check_translation
 accepted_is s f e h = rw e h
 
-pub refused_is : (s : List ℕ) (c out : Outcome) (r : Reason) → c ≡ check_translation s → c ≡ Refused r → out ≡ Refused r → out ≡ check_translation s
-refused_is s c out r ec h i = i ∙ (sym h ∙ ec)
-
-pub refused_none : {A : Type 0} (s : List ℕ) (f : Translation) → translation_of s ≡ value f → (c : Outcome) (r : Reason) → c ≡ check_translation s → c ≡ Refused r → A
+pub refused_none : {A : Type 0} (s : List ℕ) (f : Translation) → translation_of s ≡ value f → (c : Outcome) (r : Reason) → c ≡ check_translation s → c ≡ Err r → A
 unfolding check_translation
 refused_none s f e c r ec h =
-    let y : c ≡ Accepted 0 = rw e at ec in
+    let y : c ≡ Ok 0 = rw e at ec in
     refused_not {n = 0} {r = r} (sym h ∙ y)
 
 -- The parts that are lent.

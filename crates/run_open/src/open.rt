@@ -1,6 +1,6 @@
 // Opening a translation. Every operation that goes on with a translation asks this first, and what was opened is not checked or
 // indexed again.
-ghost use Rattle.std.specs.Prelude.{◌≡◌, ℕ, ◌<◌, length, get_or};
+ghost use Rattle.std.specs.Prelude.{◌≡◌, ℕ, ◌<◌, get_or};
 ghost use Rattle.outcome.specs.Outcome.{value};
 ghost use Rattle.format_fields.specs.Lists.{is_some};
 ghost use Rattle.format_translation.specs.Translation.{Translation, mapping_of};
@@ -8,48 +8,30 @@ ghost use Rattle.format_translation.specs.TranslationFile.{translation_of};
 ghost use Rattle.format_translation.specs.Operations.{check_translation};
 ghost use Rattle.format_translation.specs.Inner.Parts.{source_in, target_in, body_in};
 ghost use Rattle.format_translation.specs.Inner.ItemIndex.{Mapped};
-ghost use Rattle.check_wellformed.specs.Inner.Ready.{uses_room};
-ghost use Rattle.tree_reader.specs.Inner.Index.{table_length};
-ghost use Rattle.run_table.specs.Inner.Filling.{Begun};
 ghost use Rattle.run_open.specs.Inner.Opened.{Prepared};
 
 use check_operations::translations::check_kept;
 use check_wellformed::check::{INDEXES, USES_ROOM};
-use format_fields::bytes::to_usize;
+use format_fields::walk::NAMES;
 use format_translation::parts::{body_of, source_of, target_of};
-use outcome::{Answer, Outcome, accept, refuse};
+use outcome::Outcome;
 use run_table::prepare::prepare;
 use tree_reader::index::TABLE;
 
-// Checks a translation. The indexes that this takes are made in the front of a table that is all zero, where it is lent as a
-// slice, and what kinds map to by number in another.
-fn check_front(translation: &[u8], table: &mut [u16], uses: &mut [u8]) -> Answer
-    requires { (length table.old ≡ table_length) × ((j : ℕ) → get_or table.old j 0 ≡ 0) × (length uses.old ≡ uses_room) × ((j : ℕ) → get_or uses.old j 0 ≡ 0) }
-    ensures is { result.outcome ≡ check_translation translation.now }
-    ensures kept { (f : Translation) → translation_of translation.now ≡ value f
-        → Begun (source_in translation.now) (target_in translation.now) table.new × Mapped uses.new f.body }
-{
-    check_kept(translation, &mut table[..INDEXES], uses)
-}
-
 // Opens a translation: 1 to 7 or, where it is accepted, the table that its run looks things up in, whose front is the index of
-// the source, and what kinds map to by number. Both are all zero before.
+// the source, and what kinds map to by number. Both are all zero before. The check makes its indexes in the front of the table.
 pub fn open_translation(
     translation: &[u8],
     table: &mut [u16; TABLE],
     uses: &mut [u8; USES_ROOM],
-) -> Answer
+) -> Outcome
     requires { ((j : ℕ) → get_or table.old j 0 ≡ 0) × ((j : ℕ) → get_or uses.old j 0 ≡ 0) }
-    ensures is { result.outcome ≡ check_translation translation.now }
+    ensures is { result ≡ check_translation translation.now }
     ensures kept { (f : Translation) → translation_of translation.now ≡ value f
         → Prepared (source_in translation.now) (target_in translation.now) (body_in translation.now) table.new f
         × Mapped uses.new f.body }
 {
-    let answer = check_front(translation, table, uses);
-    let outcome = answer.outcome;
-    if let Outcome::Refused(reason) = outcome {
-        return refuse(reason);
-    }
+    check_kept(translation, &mut table[..INDEXES], uses)?;
     prepare(
         source_of(translation),
         target_of(translation),
@@ -57,7 +39,7 @@ pub fn open_translation(
         uses,
         table,
     );
-    accept(0)
+    Ok(0)
 }
 
 // Whether a kind has a number, by what kinds map to by number: it is mapped by it.
@@ -65,5 +47,5 @@ pub fn has_number(uses: &[u8; USES_ROOM], kind: u8, number: u8) -> bool
     requires { kind < 32 }
     ensures { (f : Translation) → Mapped uses.now f.body → result ≡ is_some (mapping_of f.body kind number) }
 {
-    uses[to_usize(kind) * 256 + to_usize(number)] != 0
+    uses[usize::from(kind) * NAMES + usize::from(number)] != 0
 }

@@ -1,4 +1,5 @@
--- What a run relies on, and a law for each return of `write_tree`, `run_parts` and `run`.
+-- What a run relies on, and a law for each return of `write_tree`, `finish`, `run_over`, `run_given` and `run_opened`.
+use Rattle.std.specs.Prelude.{Err, Ok}
 use Prim.Native.Nat.{ℕ, min, ◌+◌, ◌*◌, ◌<◌, ◌≤◌}
 use mathlib.Core.Path.{◌≡◌, refl, sym, ap, ◌∙◌}
 use mathlib.Core.Logic.{◌⊎◌, ⊎_elim}
@@ -6,12 +7,14 @@ use mathlib.Core.Bool.{Bool, true, false}
 use mathlib.Core.List.{List, [], ◌++◌}
 use mathlib.Core.Option.{some}
 use native.Mathlib.Omega.{arith}
-use lib.ListN.{length, get_or, drop, drop_of_length-le}
+use lib.ListN.{length, get_or, take, drop, drop_of_length-le}
+use lib.Seq.{slice}
+use Rattle.std.proofs.lemmas.List.{get_or_past, get_or-take, get_or-drop, length-take}
+use Rattle.format_fields.specs.Inner.Places.{field_end}
+use Rattle.format_translation.specs.Inner.Parts.{source_in}
 use lib.Dec.{ltb}
-use borrow.Author.Tests.{le-ltb, lt-ltb, ltb-true}
-use Rattle.outcome.specs.Outcome.{Result, value, refused, ◌>>=◌, checked, written, output_after}
-use Rattle.outcome.specs.declared.Outcome.{Outcome}
-use Rattle.outcome.specs.declared.Outcome.TheVariants.{Accepted, Refused}
+use borrow.Author.Tests.{le-ltb, lt-ltb, ltb-true, ltb-false}
+use Rattle.outcome.specs.Outcome.{Result, value, refused, ◌>>=◌, checked, written, output_after, Outcome}
 use Rattle.outcome.specs.declared.Reason.{Reason}
 use Rattle.outcome.specs.declared.Reason.TheVariants as Why
 use Rattle.format_fields.specs.Lists.{is_some}
@@ -37,24 +40,26 @@ use Rattle.format_translation.specs.WellFormed.{well_formed}
 use Rattle.format_translation.specs.Operations.{check_translation, fitted, run_bytes, run_tree}
 use Rattle.format_translation.proofs.Codec.{item_whole, translation_whole}
 use Rattle.format_translation.proofs.Lookup.{mapping_mem}
-use Rattle.run_measure.specs.declared.measure.Measured.{Measured}
-use Rattle.run_measure.specs.declared.measure.Measured.TheVariants.{End, Deep, Broken}
+use Rattle.tree_reader.specs.declared.node.ReadError.{ReadError}
+use Rattle.tree_reader.specs.declared.node.ReadError.TheVariants.{Deep, Broken}
+use Rattle.tree_reader.specs.Inner.Positions.{refusal_of}
+use Rattle.run_measure.specs.declared.measure.Figures.{Figures}
 use Rattle.run_measure.specs.Inner.Sizes.{size, capped}
 use Rattle.run_measure.specs.Cost.{cost}
 use Rattle.run_measure.specs.Inner.Learning.{Learnt}
-use Rattle.run_measure.specs.Inner.Measuring.{EndsIn, sized_at, sized_of}
+use Rattle.run_measure.specs.Inner.Measuring.{Measured, EndsIn, sized_at, sized_of}
 use Rattle.run_measure.proofs.Sums.{over_room, within_room}
 use Rattle.run_measure.proofs.Meaning.{sized_done, sized_deep, sized_broken}
 use Rattle.format_fields.specs.Inner.Writing.{spliced}
 use Rattle.run_table.specs.Inner.Stands.{Wrote}
-use Rattle.run_table.specs.Inner.Table.{Ready, Checked}
+use Rattle.run_table.specs.Inner.Table.{Checked}
 use Rattle.run_table.proofs.Clauses.{fits}
 use Rattle.run_emit.specs.Inner.Runs.{TermAsks}
 use Rattle.run_emit.proofs.Skips.{no_kind}
-use Rattle.run_table.proofs.Standing.{drop_stands, wrote_long}
-use Rattle.run_open.specs.Inner.Opened.{Prepared}
+use Rattle.run_table.proofs.Standing.{drop_stands}
 use Rattle.run_operation.specs.Operations.{largest_cost, clauses_applied, run_cost}
-use Rattle.run_operation.specs.Inner.Runs.{run_of, cost_of, Answers, Ran, Reads, Measures}
+use Rattle.run_operation.specs.declared.run.Given.{Given}
+use Rattle.run_operation.specs.Inner.Runs.{run_of, cost_of, Answers, Opened, Has, result_of, Done, outcome_of, paid_of, Ran, Asked, Reads, Measures}
 use Rattle.run_operation.proofs.Learning.{learnt_right}
 
 -- A mapping in a file is of a kind and by a byte.
@@ -76,6 +81,18 @@ module _ {s t b : List ℕ} {f : Translation} (z : Checked s t b f) where
   pub formed : well_formed f ≡ value f
   formed = (translation_whole z.file f z.accepted).2
 
+-- The source of a translation is bytes.
+slice_narrow : (s : List ℕ) (p e : ℕ) → ((i : ℕ) → get_or s i 0 < 256) → (i : ℕ) → get_or (slice p e s) i 0 < 256
+slice_narrow s p e bytes i =
+    let q : get_or (slice p e s) i 0 ≡ get_or (take e s) (p + i) 0 = get_or-drop p (take e s) i 0 in
+    by_test (ltb (p + i) e)
+    (λ h. let t = get_or-take e s (p + i) 0 (ltb-true (p + i) e h) in omega (arith, bytes (p + i)))
+    (λ h. let l = ltb-false (p + i) e h in let t = get_or_past (take e s) (p + i) 0 (omega (arith, length-take e s)) in omega arith)
+
+pub source_narrow : (s : List ℕ) {r : List ℕ} → r ≡ source_in s → ((i : ℕ) → get_or s i 0 < 256) → (i : ℕ) → get_or r i 0 < 256
+unfolding source_in
+source_narrow s e bytes i = rw e (slice_narrow s 3 (field_end s 0) bytes i)
+
 -- The bytes of a run, and what reading its tree comes to.
 abbrev pub run_by : Translation → ℕ → Code → List ℕ
 run_by f j t = Meant.write Meant.tree (transform f j t)
@@ -84,31 +101,31 @@ abbrev pub tree_read : Translation → ℕ → List ℕ → Meant.Read Code
 tree_read f k b = Meant.read Meant.tree f.source [] 64 k b
 
 -- The source's index, where the table is filled.
-pub prepared_indexed : (s t b table : List ℕ) (f : Translation) → ((i : ℕ) → get_or s i 0 < 256) → Prepared s t b table f → Indexed table s f.source
-prepared_indexed s t b table f bytes p =
-    built_indexed s table table 0 p.index (omega (arith, p.ready.long)) (λ j h. let n : 0 + j ≡ j = omega arith in ap (λ (m : ℕ). get_or table m 0) (sym n))
-    bytes p.checked.pieces.source_short f.source p.checked.pieces.source
+pub opened_indexed : {g : Given} {t : List ℕ} {f : Translation} → Opened g t f → Indexed g.table.now g.source.now f.source
+opened_indexed {g} {f = f} z =
+    let p = z.prepared in
+    built_indexed g.source.now g.table.now g.table.now 0 p.index (omega (arith, p.ready.long)) (λ j h. let n : 0 + j ≡ j = omega arith in ap (λ (m : ℕ). get_or g.table.now m 0) (sym n))
+    z.source p.checked.pieces.source_short f.source p.checked.pieces.source
 
 -- What measuring leaves.
-pub measures : {s x b : List ℕ} {f : Translation} → Checked s x b f → (table ends before bytes : List ℕ) (k j top : ℕ) (r : Measured)
-    → Indexed table s f.source → ((i : ℕ) → get_or bytes i 0 < 256) → ((i : ℕ) → get_or before i 0 ≡ 0)
-    → ((u : ℕ) → mapping_of f.body k j ≡ some u → sized_at bytes r ≡ sized_of top f j (tree_read f k bytes))
-    → EndsIn (length bytes) top r → Learnt s table bytes before ends → Measures ends f k j bytes top r
-measures {s} {f = f} z table ends before bytes k j top r indexed narrow zeros is within learnt = record {
+pub measures : {g : Given} {t : List ℕ} {f : Translation} → Opened g t f → (ends before : List ℕ) (top : ℕ) (r : Measured) → ((i : ℕ) → get_or before i 0 ≡ 0)
+    → ((u : ℕ) → mapping_of f.body g.kind g.number ≡ some u → sized_at g.tree.now r ≡ sized_of top f g.number (tree_read f g.kind g.tree.now))
+    → EndsIn (length g.tree.now) top r → Learnt g.source.now g.table.now g.tree.now before ends → Measures g f ends top r
+measures {g} {f = f} z ends before top r zeros is within learnt = record {
   is = is;
   within = within;
-  kept = learnt_right s table bytes f.source indexed (source_apart z) narrow before ends zeros learnt;
+  kept = learnt_right g.source.now g.table.now g.tree.now f.source (opened_indexed z) (source_apart z.prepared.checked) z.tree before ends zeros learnt;
 }
 
 -- What `write_tree` hands to the emitter: the tree that was read stands in its bytes.
-pub tree_asks : (table b ends : List ℕ) (k j : ℕ) (f : Translation) (t : Code) → Ready table f → k < 32 → ((i : ℕ) → get_or b i 0 < 256)
-    → Reads f k j ends b t → TermAsks Tree table b ends 64 k j f [] t
-tree_asks table b ends k j f t r h y e =
-    let d = right-done Meant.tree f.source [] 64 k b t [] e.is in
+pub tree_asks : {g : Given} {s : List ℕ} {f : Translation} {t : Code} → Opened g s f → (ends : List ℕ) → g.kind < 32 → Reads g f ends t
+    → TermAsks Tree g.table.now g.tree.now ends 64 g.kind g.number f [] t
+tree_asks {g} {f = f} {t = t} z ends h e =
+    let d = right-done Meant.tree f.source [] 64 g.kind g.tree.now t [] e.is in
     record {
-      table = record { ready = r; plain = λ q. refl; uses = λ a i n q. no_kind a i q; numbers = λ q. no_code q };
+      table = record { ready = z.prepared.ready; plain = λ q. refl; uses = λ a i n q. no_kind a i q; numbers = λ q. no_code q };
       kept = e.kept;
-      term = record { typed = d.0; kind = h; stands = drop_stands b 0 _ [] (omega arith) (d.2 (bytes_from b (λ i l. y i))).0 };
+      term = record { typed = d.0; kind = h; stands = drop_stands g.tree.now 0 _ [] (omega arith) (d.2 (bytes_from g.tree.now (λ i l. z.tree i))).0 };
       has = e.has;
       levels = d.1;
       most = omega arith;
@@ -117,139 +134,141 @@ tree_asks table b ends k j f t r h y e =
     no_code : {A : Type 0} → Tree ≡ InCode → A
     no_code q = let z : ◌≡◌ {A = ℕ} 0 1 = cc in absurd (omega arith)
 
--- put_tree: of what is all zero nothing is kept.
-pub reads_none : {f : Translation} {k j : ℕ} {ends b none : List ℕ} {t : Code} → ((i : ℕ) → get_or none i 0 ≡ 0) → Reads f k j ends b t → Reads f k j none b t
+-- write_tree: of what is all zero nothing is kept.
+pub reads_none : {g : Given} {f : Translation} {ends none : List ℕ} {t : Code} → ((i : ℕ) → get_or none i 0 ≡ 0) → Reads g f ends t → Reads g f none t
 reads_none zero h = record {
   has = h.has;
   is = h.is;
   kept = λ n p a z u d i. absurd (omega (arith, z.some, z.end, zero (2 * z.slot + 1)));
 }
 
--- write_tree
-module _ (v o after : List ℕ) (p : ℕ) (w : Wrote v o after 0 p) where
-  pub tree_written : {out : Outcome} → p ≤ length after → out ≡ Accepted p → Answers (value v) o after out
-  unfolding spliced
-  tree_written i h =
-      let l = wrote_long v o after 0 p w in
-      let x = w.fits (omega arith) in
-      let z : 0 + length v ≡ length v = omega arith in
-      record { answer = h ∙ ap Accepted (x.0 ∙ z); left = x.1 ∙ ap (λ (n : ℕ). v ++ drop n o) z }
-
-  pub tree_full : {out : Outcome} → length after < p → length v ≤ length o → Answers (value v) o after out
-  tree_full i h =
-      let l = wrote_long v o after 0 p w in
-      let x = (w.full (omega arith)).0 in
-      absurd (omega arith)
+-- write_tree: what was put out fitted.
+pub tree_written : (v o after : List ℕ) (n : ℕ) → Wrote v o after 0 n → length v ≤ length o → Answers (value v) o after (Ok n)
+unfolding spliced
+tree_written v o after n w h =
+    let i : n ≤ length o = by_test (ltb (length o) n) (λ q. let l = (w.full (ltb-true (length o) n q)).0 in absurd (omega arith)) (λ q. ltb-false (length o) n q) in
+    let x = w.fits i in
+    let z : 0 + length v ≡ length v = omega arith in
+    record { answer = ap Ok (x.0 ∙ z); left = x.1 ∙ ap (λ (m : ℕ). v ++ drop m o) z }
 
 -- The answer that a result makes.
-answer_refused : {x : Result (List ℕ)} {o : List ℕ} {out : Outcome} {r : Reason} → x ≡ refused r → out ≡ Refused r → Answers x o o out
+answer_refused : {x : Result (List ℕ)} {o : List ℕ} {out : Outcome} {r : Reason} → x ≡ refused r → out ≡ Err r → Answers x o o out
 answer_refused {o = o} e h = record { answer = h ∙ sym (ap written e); left = sym (ap (output_after o) e) }
 
 answer_same : {x y : Result (List ℕ)} {o after : List ℕ} {out : Outcome} → x ≡ y → Answers y o after out → Answers x o after out
 answer_same {o = o} e h = record { answer = h.answer ∙ sym (ap written e); left = h.left ∙ sym (ap (output_after o) e) }
 
 -- A run that is refused costs 0.
-ran_refused : (f : Translation) (k j : ℕ) (b o : List ℕ) {out : Outcome} {r : Reason} {paid : ℕ}
-    → run_of f k j b (length o) ≡ refused r → out ≡ Refused r → paid ≡ 0 → Ran f k j b o o paid out
+pub ran_refused : (g : Given) (f : Translation) (o : List ℕ) (r : Reason) → run_of f g.kind g.number g.tree.now (length o) ≡ refused r → Ran g f o o (Err r)
 unfolding cost_of
-ran_refused f k j b o e h i = record { answers = answer_refused e h; costs = i ∙ rw e refl }
+ran_refused g f o r e = record { answers = answer_refused e refl; costs = rw e refl }
 
--- run_parts: the kind lacks the number.
-pub kind_out : (f : Translation) (k j : ℕ) (b o : List ℕ) {r : Bool} → r ≡ is_some (mapping_of f.body k j)
-    → {out : Outcome} {paid : ℕ} → r ≡ false → out ≡ Refused Why.UnknownRoot → paid ≡ 0 → Ran f k j b o o paid out
+-- run_given: the kind lacks the number.
+pub kind_out : (g : Given) (f : Translation) (o : List ℕ) → is_some (mapping_of f.body g.kind g.number) ≡ false → Ran g f o o (Err Why.UnknownRoot)
 unfolding run_of
-kind_out f k j b o er h i free = ran_refused f k j b o (rw (← er, h) refl) i free
+kind_out g f o h = ran_refused g f o Why.UnknownRoot (rw h refl)
 
--- finish
-module _ {s t x : List ℕ} {f : Translation} (z : Checked s t x f) (k j top : ℕ) (b o ends : List ℕ) (has : is_some (mapping_of f.body k j) ≡ true) (m : Measured)
-    (over : length o < top) (w : Measures ends f k j b top m) where
+-- Measuring, and what follows where it found a tree.
+module _ {g : Given} {t : List ℕ} {f : Translation} (z : Opened g t f) (top : ℕ) (o ends : List ℕ) (has : Has g f) where
+  k : ℕ
+  k = g.kind
+
+  j : ℕ
+  j = g.number
+
+  b : List ℕ
+  b = g.tree.now
+
   room : ℕ
   room = length o
 
   there : is_in f.source k ≡ true
-  there = let u = some_is (mapping_of f.body k j) has in ((fits z).maps_only k j u.0 (mapping_mem f.body k j u.0 u.1)).0
+  unfolding k j
+  there = let u = some_is (mapping_of f.body k j) has in ((fits z.prepared.checked).maps_only k j u.0 (mapping_mem f.body k j u.0 u.1)).0
 
-  by_read : {g : Meant.Read Code} → tree_read f k b ≡ g → run_of f k j b room ≡ (whole_tree g >>= λ t. fitted room (run_by f j t))
-  unfolding run_of tree_of
+  by_read : {q : Meant.Read Code} → tree_read f k b ≡ q → run_of f k j b room ≡ (whole_tree q >>= λ a. fitted room (run_by f j a))
+  unfolding run_of tree_of k j
   by_read e = rw (has, there, e) refl
 
-  em : sized_at b m ≡ sized_of top f j (tree_read f k b)
-  em = let u = some_is (mapping_of f.body k j) has in w.is u.0 u.1
+  read_is : (m : Measured) → Measures g f ends top m → sized_at b m ≡ sized_of top f j (tree_read f k b)
+  unfolding k j b
+  read_is m w = let u = some_is (mapping_of f.body k j) has in w.is u.0 u.1
 
-  pub tree_deep : {out : Outcome} {paid : ℕ} → m ≡ Deep → out ≡ Refused Why.TooDeep → paid ≡ 0 → Ran f k j b o o paid out
-  unfolding room
-  tree_deep y i free = ran_refused f k j b o (by_read (sized_deep f top j (tree_read f k b) (sym em ∙ ap (sized_at b) y))) i free
+  -- run_over: there is no such tree.
+  pub tree_refused : (e : ReadError) → Measures g f ends top (Err e) → Ran g f o o (Err (refusal_of e))
+  unfolding k j b room
+  tree_refused Deep w = ran_refused g f o Why.TooDeep (by_read (sized_deep f top j (tree_read f k b) (sym (read_is (Err Deep) w))))
+  tree_refused Broken w = ran_refused g f o Why.IllegalTree (by_read (sized_broken f top j (tree_read f k b) (sym (read_is (Err Broken) w))))
 
-  pub tree_broken : {out : Outcome} {paid : ℕ} → m ≡ Broken → out ≡ Refused Why.IllegalTree → paid ≡ 0 → Ran f k j b o o paid out
-  unfolding room
-  tree_broken y i free = ran_refused f k j b o (by_read (sized_broken f top j (tree_read f k b) (sym em ∙ ap (sized_at b) y))) i free
+  -- finish
+  module _ (m : Figures) (over : length o < top) (w : Measures g f ends top (Ok m)) where
+    read_done : (a : Code) × (tree_read f k b ≡ Meant.done a (drop m.end b)) × (m.length ≡ capped top (size (transform f j a)))
+        × (m.cost ≡ capped top (cost (clauses_of f) j a))
+    unfolding b
+    read_done = sized_done f top j (tree_read f k b) (drop m.end b) m.length m.cost (sym (read_is (Ok m) w))
 
-  module _ (e n c : ℕ) (y : m ≡ End e n c) where
-    read_done : (a : Code) × (tree_read f k b ≡ Meant.done a (drop e b)) × (n ≡ capped top (size (transform f j a))) × (c ≡ capped top (cost (clauses_of f) j a))
-    read_done = sized_done f top j (tree_read f k b) (drop e b) n c (sym em ∙ ap (sized_at b) y)
+    pub tree_more : (m.end ≡ length g.tree.now → ⊥) → Ran g f o o (Err Why.IllegalTree)
+    unfolding room k j b
+    tree_more h =
+        let l = w.within.0 in
+        let q : m.end < length g.tree.now = omega arith in
+        ran_refused g f o Why.IllegalTree (by_read (read_done.1 ∙ ap (Meant.done read_done.0) (front g.tree.now m.end q)))
 
-    pub tree_more : {out : Outcome} {paid : ℕ} → (e ≡ length b → ⊥) → out ≡ Refused Why.IllegalTree → paid ≡ 0 → Ran f k j b o o paid out
-    unfolding room
-    tree_more h i free =
-        let v : EndsIn (length b) top (End e n c) = rw y at w.within in
-        let l = v.0 in
-        let g : e < length b = omega arith in
-        ran_refused f k j b o (by_read (read_done.1 ∙ ap (Meant.done read_done.0) (front b e g))) i free
-
-    module _ (all : e ≡ length b) where
+    module _ (all : m.end ≡ length g.tree.now) where
       read_all : tree_read f k b ≡ Meant.done read_done.0 []
-      read_all = read_done.1 ∙ ap (Meant.done read_done.0) (drop_of_length-le b {i = e} (omega arith))
+      unfolding b
+      read_all = read_done.1 ∙ ap (Meant.done read_done.0) (drop_of_length-le b {i = m.end} (omega arith))
 
       -- The tree is legal.
-      pub tree_whole : (t : Code) × Reads f k j ends b t
+      pub tree_whole : (a : Code) × Reads g f ends a
+      unfolding k b
       tree_whole = (read_done.0, record { has = has; is = read_all; kept = w.kept })
 
-      fitted_is : (d : Bool) → ltb room n ≡ d → ltb room (size (transform f j read_done.0)) ≡ d
+      fitted_is : (d : Bool) → ltb room m.length ≡ d → ltb room (size (transform f j read_done.0)) ≡ d
       unfolding room
       fitted_is d h = sym (over_room room top (size (transform f j read_done.0)) over) ∙ (ap (ltb room) (sym read_done.2) ∙ h)
 
-      pub tree_long : {out : Outcome} {paid : ℕ} → length o < n → out ≡ Refused Why.OutputTooShort → paid ≡ 0 → Ran f k j b o o paid out
-      unfolding room
-      tree_long h i free = ran_refused f k j b o (by_read read_all ∙ rw (fitted_is true (lt-ltb room n h)) refl) i free
+      pub tree_long : length o < m.length → Ran g f o o (Err Why.OutputTooShort)
+      unfolding room k j b
+      tree_long h = ran_refused g f o Why.OutputTooShort (by_read read_all ∙ rw (fitted_is true (lt-ltb room m.length h)) refl)
 
       -- The run of the tree that was read, where it fits, and its cost: a count up to the top is reported as the whole count is.
-      tree_run : n ≤ length o → run_of f k j b (length o) ≡ value (run_by f j read_done.0)
+      tree_run : m.length ≤ length o → run_of f k j b (length o) ≡ value (run_by f j read_done.0)
       unfolding room
-      tree_run h = by_read read_all ∙ rw (fitted_is false (le-ltb room n h)) refl
+      tree_run h = by_read read_all ∙ rw (fitted_is false (le-ltb room m.length h)) refl
 
       tree_is : tree_of f.source k b ≡ value read_done.0
       unfolding tree_of
       tree_is = rw (there, read_all) refl
 
-      tree_costs : {paid : ℕ} → n ≤ length o → largest_cost ≤ top → paid ≡ min c largest_cost → paid ≡ cost_of f k j b (length o)
+      tree_costs : {paid : ℕ} → m.length ≤ length o → largest_cost ≤ top → paid ≡ min m.cost largest_cost → paid ≡ cost_of f k j b (length o)
       unfolding cost_of
       tree_costs h l i =
           let q = read_done.3 in
-          let y : min c largest_cost ≡ min (cost (clauses_of f) j read_done.0) largest_cost = omega arith in
+          let y : min m.cost largest_cost ≡ min (cost (clauses_of f) j read_done.0) largest_cost = omega arith in
           i ∙ (y ∙ rw (tree_run h, tree_is) refl)
 
-      pub tree_fits : {out : Outcome} {after : List ℕ} {paid : ℕ} → n ≤ length o → largest_cost ≤ top → paid ≡ min c largest_cost
-          → ((t : Code) → Reads f k j ends b t → length (run_by f j t) ≤ length o → Answers (value (run_by f j t)) o after out)
-          → Ran f k j b o after paid out
-      unfolding room
-      tree_fits h most i g =
+      pub tree_fits : {n paid : ℕ} {after : List ℕ} → m.length ≤ length o → largest_cost ≤ top → paid ≡ min m.cost largest_cost
+          → ((a : Code) → Reads g f ends a → length (result_of g f a) ≤ length o → Answers (value (result_of g f a)) o after (Ok n))
+          → Ran g f o after (Ok record { length = n; cost = paid })
+      unfolding room k j b
+      tree_fits h most i gives =
           let q = read_done.2 in
           let l = within_room room top (size (transform f j read_done.0)) over (omega arith) in
-          let y : Reads f k j ends b read_done.0 = record { has = has; is = read_all; kept = w.kept } in
-          record { answers = answer_same (tree_run h) (g read_done.0 y (omega arith)); costs = tree_costs h most i }
+          let y : Reads g f ends read_done.0 = record { has = has; is = read_all; kept = w.kept } in
+          record {
+            answers = answer_same (tree_run h) (gives read_done.0 y (omega arith));
+            costs = tree_costs h most i;
+          }
 
--- The outcome, the output and the cost are those of the operation.
-abbrev pub AsRun : List ℕ → (root number : ℕ) → List ℕ → List ℕ → List ℕ → ℕ → Outcome → Type 0
-AsRun s root j b o after paid out =
-    (out ≡ (run_tree s root j b o).outcome) × (after ≡ (run_tree s root j b o).output) × (paid ≡ run_cost s root j b (length o))
-
+-- The operation.
 module _ (s : List ℕ) (root j : ℕ) (b o : List ℕ) where
-  run_is : (out : Outcome) (after : List ℕ) (paid : ℕ) → Answers (run_bytes s root j b (length o)) o after out → paid ≡ run_cost s root j b (length o)
-      → AsRun s root j b o after paid out
+  asked_is : (after : List ℕ) (done : Done) → Answers (run_bytes s root j b (length o)) o after (outcome_of done) → paid_of done ≡ run_cost s root j b (length o)
+      → Asked s root j b o after done
   unfolding run_tree
-  run_is out after paid h i = (h.answer, h.left, i)
+  asked_is after done h i = record { outcome = h.answer; output = h.left; costs = i }
 
-  module _ (f : Translation) (e : translation_of s ≡ value f) (out : Outcome) where
+  module _ (f : Translation) (e : translation_of s ≡ value f) where
     run_same : run_bytes s root j b (length o) ≡ run_of f root j b (length o)
     unfolding run_bytes run_of
     run_same = rw e
@@ -258,9 +277,6 @@ module _ (s : List ℕ) (root j : ℕ) (b o : List ℕ) where
     unfolding run_cost clauses_applied cost_of
     cost_same = rw (run_same, e) refl
 
-    pub run_accepted : (after : List ℕ) (paid : ℕ) → Ran f root j b o after paid out → AsRun s root j b o after paid out
-    run_accepted after paid h = run_is out after paid (answer_same run_same h.answers) (h.costs ∙ sym cost_same)
-
     mapped_whole : (u : ℕ) → mapping_of f.body root j ≡ some u → (root < 32) × (j < 256)
     mapped_whole u q =
         let w = translation_whole s f e in
@@ -268,18 +284,31 @@ module _ (s : List ℕ) (root j : ℕ) (b o : List ℕ) where
         let x = all_mem item_whole f.body w.1.body (mapping root j u) v in
         item_below root j u x
 
-    pub root_past : {paid : ℕ} → (31 < root) ⊎ (255 < j) → out ≡ Refused Why.UnknownRoot → paid ≡ 0 → AsRun s root j b o o paid out
-    root_past {paid} h i free =
-        run_accepted o paid (by_test (is_some (mapping_of f.body root j))
-        (λ q. let u = some_is (mapping_of f.body root j) q in let l = mapped_whole u.0 u.1 in ⊎_elim (λ g. absurd (omega arith)) (λ g. absurd (omega arith)) h)
-        (λ q. kind_out f root j b o refl q i free))
+    none_past : (31 < root) ⊎ (255 < j) → is_some (mapping_of f.body root j) ≡ false
+    none_past h =
+        by_test (is_some (mapping_of f.body root j))
+        (λ q. let u = some_is (mapping_of f.body root j) q in let l = mapped_whole u.0 u.1 in ⊎_elim (λ n. absurd (omega arith)) (λ n. absurd (omega arith)) h)
+        (λ q. q)
 
-  pub run_refused : (c out : Outcome) (r : Reason) {paid : ℕ} → c ≡ check_translation s → c ≡ Refused r → out ≡ Refused r → paid ≡ 0 → AsRun s root j b o o paid out
+    pub root_past : (31 < root) ⊎ (255 < j) → Asked s root j b o o (Err Why.UnknownRoot)
+    unfolding run_of cost_of
+    root_past h =
+        let q = none_past h in
+        let y : run_of f root j b (length o) ≡ refused Why.UnknownRoot = rw q refl in
+        asked_is o (Err Why.UnknownRoot) (answer_refused (run_same ∙ y) refl) (sym (cost_same ∙ rw y refl))
+
+    pub run_accepted : (g : Given) (after : List ℕ) (done : Done) → g.kind ≡ root → g.number ≡ j → g.tree.now ≡ b → Ran g f o after done → Asked s root j b o after done
+    run_accepted g after done ek ej eb h =
+        let y : run_of f g.kind g.number g.tree.now (length o) ≡ run_bytes s root j b (length o) = rw (ek, ej, eb) (sym run_same) in
+        let c : cost_of f g.kind g.number g.tree.now (length o) ≡ run_cost s root j b (length o) = rw (ek, ej, eb) (sym cost_same) in
+        asked_is after done (answer_same (sym y) h.answers) (h.costs ∙ c)
+
+  pub run_refused : (r : Reason) → check_translation s ≡ Err r → Asked s root j b o o (Err r)
   unfolding check_translation run_bytes run_cost clauses_applied
-  run_refused c out r {paid} ec h i free =
-      let y = go (translation_of s) refl (sym ec ∙ h) in
-      run_is out o paid (answer_refused y i) (free ∙ rw y refl)
+  run_refused r h =
+      let y = go (translation_of s) refl h in
+      asked_is o (Err r) (answer_refused y refl) (rw y refl)
     where
-      go : (q : Result Translation) → translation_of s ≡ q → checked q ≡ Refused r → run_bytes s root j b (length o) ≡ refused r
+      go : (q : Result Translation) → translation_of s ≡ q → checked q ≡ Err r → run_bytes s root j b (length o) ≡ refused r
       go (value f) e d = refused_not {n = 0} {r = r} (sym d)
       go (refused x) e d = rw e (cc)

@@ -1,19 +1,19 @@
 -- The clauses of a body that was accepted: where their codes stand, and the walk that puts their spans into the table.
-use Prim.Native.Nat.{ℕ, zero, suc, ◌+◌, ◌-◌, ◌*◌, ◌/◌, ◌%◌, ◌≤◌, ◌<◌}
+use Prim.Native.Nat.{ℕ, zero, suc, ◌+◌, ◌-◌, ◌/◌, ◌%◌, ◌≤◌, ◌<◌}
 use mathlib.Core.Path.{◌≡◌, refl, sym, ap, ◌∙◌}
 use mathlib.Core.Logic.{◌⊎◌, inl, inr, ⊎_elim}
 use mathlib.Core.List.{List, [], ◌∷◌, ◌++◌, append-nil}
-use mathlib.Core.Bool.{true, false}
+use mathlib.Core.Bool.{true}
 use mathlib.Core.Option.{some}
 use native.Mathlib.Omega.{arith}
 use lib.ListN.{length, get_or, take, drop, length-drop, take-append-drop}
 use lib.Seq.{slice, drop-append-le, length-slice}
 use lib.Dec.{eqb}
-use borrow.Author.Tests.{eq-eqb, eqb-true, lt-ltb}
+use borrow.Author.Tests.{eq-eqb, eqb-true}
 use Rattle.format_fields.specs.Lists.{is_some}
 use Rattle.outcome.specs.Outcome.{value}
 use Rattle.format_fields.specs.Inner.Places.{field_end, places_from, places}
-use Rattle.format_fields.proofs.Truth.{Mem, by_test, none_some, some_inj, false_true, all_mem, any_mem, mem_any, mem_map, map_cases, some_is}
+use Rattle.format_fields.proofs.Truth.{Mem, by_test, false_true, all_mem, any_mem, mem_any, mem_map, map_cases, some_is}
 use Rattle.format_fields.proofs.Keyed.{Rising, is_rising}
 use Rattle.format_fields.proofs.Places.{places_done, places_next, end_past}
 use Rattle.format_fields.proofs.Codec.{Bytes, each_front, bytes_from}
@@ -21,23 +21,23 @@ use Rattle.format_language.specs.Language.{Language, arguments_of}
 use Rattle.format_language.proofs.Lookup.{arguments_mem, result_in}
 use Rattle.tree_reader.specs.Code.{Code, node, token, argument, levels}
 use Rattle.tree_reader.specs.Typing.{Uses, Typed}
-use Rattle.tree_reader.specs.Syntax.{write, write_all, code, done}
+use Rattle.tree_reader.specs.Syntax.{write, write_all, code}
 use Rattle.tree_reader.specs.Inner.Index.{Indexed}
-use Rattle.tree_reader.specs.Inner.Positions.{kind_before, mapped_in}
 use Rattle.tree_reader.proofs.Members.{in_below}
 use Rattle.tree_reader.proofs.Sound.{read_done}
 use Rattle.format_translation.specs.Translation.{Translation, mapping, clause, item_key, mapping_of, mapped}
 use Rattle.format_translation.specs.Running.{read_clause, clauses_of, uses_of, code_levels}
 use Rattle.format_translation.specs.WellFormed.{well_formed}
-use Rattle.format_translation.specs.Inner.Items.{item_whole, item_at, is_clause_tag, ItemFacts, plain_mapping, plain_clause, numbered_mapping_lem, numbered_clause_lem, HoldsItems}
-use Rattle.format_translation.specs.Inner.ItemIndex.{Mapped}
+use Rattle.format_translation.specs.Inner.Items.{item_whole, item_at, is_clause_tag, code_start, clause_number, ItemFacts, plain_mapping, plain_clause, numbered_mapping_lem, numbered_clause_lem, HoldsItems}
+use Rattle.format_translation.specs.Inner.ItemIndex.{Mapped, mapped_by}
+use Rattle.format_translation.proofs.Clauses.{mapped_is}
 use Rattle.format_translation.proofs.Items.{holds_items, item_facts, mapping_is, clause_is, numbered_mapping_is, numbered_clause_is}
 use Rattle.format_translation.proofs.Codec.{rises_parts, WholeTranslation, translation_whole}
 use Rattle.format_translation.proofs.Lookup.{mem_mapping, mapping_mem}
 use Rattle.format_translation.proofs.Fitting.{Fitting, KindsBelow, formed_fits, clause_code}
 use Rattle.run_table.specs.Inner.Stands.{Stands}
-use Rattle.run_table.specs.Inner.Table.{SpansAt, code_start, clause_number, is_place, NumberedAt, Checked}
-use Rattle.run_table.specs.Inner.Filling.{mapped_by, Below, CodeAsks, Spanned, FieldAsks, FieldSpanned, AllSpanned, ItemAt, Itemed}
+use Rattle.run_table.specs.Inner.Table.{SpansAt, is_place, NumberedAt, Checked}
+use Rattle.run_table.specs.Inner.Filling.{Below, CodeAsks, Spanned, FieldAsks, FieldSpanned, AllSpanned, ItemAt, Itemed}
 use Rattle.run_table.proofs.Standing.{drop_stands}
 use Rattle.run_table.proofs.Spans.{spans_kept, below_none, below_then}
 
@@ -179,15 +179,6 @@ module _ {s t b : List ℕ} {f : Translation} (z : Checked s t b f) where
       let (x, i, d) = map_cases (item_at b) (clause k n j c) (places b) (rw held.items m) in
       (x, numbered_here x k n j c h i (sym d) (item_is x i))
 
-  -- What a kind maps to by a number, by the table of uses.
-  pub mapped_by_lem : (uses : List ℕ) → Mapped uses f.body → (k j t : ℕ) → k < 32 → j < 256 → mapping_of f.body k j ≡ some t → mapped_by uses k j ≡ t
-  unfolding mapped_by mapped_in
-  mapped_by_lem uses w k j t h i e = go (get_or uses (k * 256 + j) 0) refl (rw (lt-ltb j 256 i) at (w.is k j h i) ∙ e)
-    where
-      go : (x : ℕ) → get_or uses (k * 256 + j) 0 ≡ x → kind_before (get_or uses (k * 256 + j) 0) ≡ some t → get_or uses (k * 256 + j) 0 - 1 ≡ t
-      go zero q y = none_some (rw q at y)
-      go (suc x) q y = let v : x ≡ t = some_inj (rw q at y) in omega arith
-
   module _ (bytes : (i : ℕ) → get_or b i 0 < 256) where
     pub clause_there : (p : ℕ) → Mem p (places b) → is_clause_tag (get_or b p 0) ≡ true → ClauseAt b f p
     unfolding read_clause
@@ -250,15 +241,9 @@ unfolding code_start
 start_past b p = by_test (eqb (get_or b p 0) 0x29) (λ e. rw e (omega arith)) (λ e. rw e (omega arith))
 
 module _ (s index b uses : List ℕ) (p : ℕ) (t : List ℕ) where
-  pub field_other : is_clause_tag (get_or b p 0) ≡ false → (l : Language) (given : Uses) (a : Code) → FieldAsks s index b uses p l given a → FieldSpanned b p t t a
-  field_other h l given a w = record { below = below_none t p; spans = λ e. false_true (sym h ∙ e) }
-
   module _ (x j k : ℕ) (tag : is_clause_tag (get_or b p 0) ≡ true) (ex : x ≡ get_or b (p + 3) 0) (ej : j ≡ clause_number b p) (ek : k ≡ mapped_by uses x j) where
     same_kind : k ≡ mapped_by uses (get_or b (p + 3) 0) (clause_number b p)
     same_kind = rw (ek, ex, ej)
-
-    pub field_past : 31 < k → (l : Language) (given : Uses) (a : Code) → FieldAsks s index b uses p l given a → FieldSpanned b p t t a
-    field_past h l given a w = let i = w.kind tag in absurd (omega (arith, same_kind))
 
     pub field_spanned : (c : ℕ) → c ≡ code_start b p → (u : List ℕ) (r : ℕ) → ((l : Language) (given : Uses) (a : Code) → CodeAsks s index b k c 16 l given a → Spanned t u c a r)
         → (l : Language) (given : Uses) (a : Code) → FieldAsks s index b uses p l given a → FieldSpanned b p t u a
@@ -285,23 +270,23 @@ pub record WalkAsks (s target index b uses : List ℕ) (f : Translation) : Type 
 abbrev pub Walk : List ℕ → List ℕ → List ℕ → List ℕ → List ℕ → List ℕ → ℕ → Type 0
 Walk target index b uses t u p = (s : List ℕ) (f : Translation) → WalkAsks s target index b uses f → Walked b t u p f
 
-pub walk_starts : (target index b uses t : List ℕ) → Walk target index b uses t t 0
-walk_starts target index b uses t s f w = record { below = below_none t 0; rest = λ x m. m; done = λ x m. inl m }
-
 module _ (target index b uses t u : List ℕ) (p : ℕ) (bytes : (i : ℕ) → get_or b i 0 < 256) where
   module _ (s : List ℕ) (f : Translation) (w : WalkAsks s target index b uses f) (y : Walked b t u p f) where
     abbrev given_here : Uses
     given_here = uses_of f (get_or b (p + 3) 0) (get_or b (p + 4) 0)
 
     kind_here : ClauseAt b f p → mapped_by uses (get_or b (p + 3) 0) (clause_number b p) ≡ mapped f.body (get_or b (p + 3) 0) (clause_number b p)
+    kind_here c = mapped_is uses f.body w.mapped _ _ c.field.kind c.field.byte
+
+    goal_here : (c : ClauseAt b f p) → mapped f.body (get_or b (p + 3) 0) (clause_number b p) ≡ c.goal
     unfolding mapped
-    kind_here c = mapped_by_lem w.checked uses w.mapped _ _ c.goal c.field.kind c.field.byte c.maps ∙ rw c.maps
+    goal_here c = rw c.maps
 
     field_asks : Mem p (places b) → FieldAsks target index b uses p f.target given_here (code_at b f p)
     field_asks m = record {
       kind = λ e.
           let c = clause_there w.checked bytes p m e in
-          rw (mapped_by_lem w.checked uses w.mapped _ _ c.goal c.field.kind c.field.byte c.maps) c.below;
+          rw (kind_here c, goal_here c) c.below;
       code = λ e.
           let c = clause_there w.checked bytes p m e in
           record {

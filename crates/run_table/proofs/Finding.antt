@@ -1,14 +1,14 @@
 -- Lookups in the table: where a code ends, and where the clause of a number stands.
 use Prim.Native.Nat.{ℕ, zero, suc, ◌+◌, ◌*◌, ◌≤◌, ◌<◌}
 use mathlib.Core.Path.{◌≡◌, refl, sym, ◌∙◌}
-use mathlib.Core.Logic.{◌⊎◌, inl, inr, ⊎_elim}
+use mathlib.Core.Logic.{inl, inr, ⊎_elim}
 use mathlib.Core.Bool.{true, false}
 use mathlib.Core.List.{List, ◌∷◌}
 use mathlib.Core.Option.{some}
 use native.Mathlib.Omega.{arith}
 use lib.ListN.{length, get_or}
 use lib.Dec.{leb, eqb}
-use borrow.Author.Tests.{leb-true, leb-false, eq-eqb, ne_eqb, eqb-true}
+use borrow.Author.Tests.{leb-true, leb-false, eq-eqb, eqb-true}
 use Rattle.format_fields.specs.Fields.{pair_at}
 use Rattle.format_fields.specs.Lists.{is_some}
 use Rattle.format_fields.specs.Inner.Places.{field_end, places_in, places_from, places}
@@ -53,26 +53,6 @@ module _ (t : List ℕ) (c : ℕ) where
   end_three e d (token v) w = refl
   end_three e d (argument i zero) w = absurd (d (stands_head t (17472 + c) 3 _ w.stands).1)
   end_three e d (argument i (suc j)) w = refl
-
--- is_numbered
-module _ (t : List ℕ) (x k p j v : ℕ) (ev : v ≡ body_byte t x) where
-  pub other_tag : (v ≡ 0x29 → ⊥) → false ≡ numbered_is t x k p j
-  unfolding numbered_is
-  other_tag h = cc (ne_eqb v 0x29 h)
-
-  module _ (tag : v ≡ 0x29) (w : ℕ) (ew : w ≡ body_byte t (x + 3)) where
-    pub other_kind : (w ≡ k → ⊥) → false ≡ numbered_is t x k p j
-    unfolding numbered_is
-    other_kind h = cc (eq-eqb v 0x29 tag, ne_eqb w k h)
-
-    module _ (kind : w ≡ k) (y : ℕ) (ey : y ≡ body_byte t (x + 4)) where
-      pub other_name : (y ≡ p → ⊥) → false ≡ numbered_is t x k p j
-      unfolding numbered_is
-      other_name h = cc (eq-eqb v 0x29 tag, eq-eqb w k kind, ne_eqb y p h)
-
-      pub by_number : y ≡ p → (z : ℕ) → z ≡ body_byte t (x + 5) → eqb z j ≡ numbered_is t x k p j
-      unfolding numbered_is
-      by_number h z ez = cc (eq-eqb v 0x29 tag, eq-eqb w k kind, eq-eqb y p h)
 
 -- A place from p on lies in the bytes, and not before p.
 from_past : (f : ℕ) (s : List ℕ) (p x : ℕ) → Mem x (places_in f s p) → (p ≤ x) × (x < length s)
@@ -190,11 +170,10 @@ pub numbered_asks : (t : List ℕ) (k n j r : ℕ) → ((f : Translation) (ks : 
     → (f : Translation) (ks : List ℕ) → Ready t f → arguments_of f.source k n ≡ some ks → is_some (mapping_of f.body k j) ≡ true → Clause t r (clauses_of f k n j)
 numbered_asks t k n j r h f ks w e s = h f ks (record { ready = w; arguments = e; mapped = s })
 
-pub hint_hit : (t : List ℕ) (k n j p : ℕ) → (p ≡ 0 → ⊥) → (0 < p → (i : ℕ) × (p ≡ hint_entry t i)) → true ≡ numbered_is t p k n j
+pub hint_hit : (t : List ℕ) (k n j p : ℕ) → 0 < p → (i : ℕ) × (p ≡ hint_entry t i) → true ≡ numbered_is t p k n j
     → (f : Translation) (ks : List ℕ) → Ready t f → arguments_of f.source k n ≡ some ks → is_some (mapping_of f.body k j) ≡ true → Clause t (p + 6) (clauses_of f k n j)
-hint_hit t k n j p more hint e f ks w g s =
+hint_hit t k n j p more (i, d) e f ks w g s =
     let b : List ℕ = w.bytes in
     let h = w.held in
-    let (i, d) = hint (omega (arith, more)) in
-    let place : is_place b p ≡ true = rw d (h.hint i (rw (← d) (omega (arith, more)))) in
+    let place : is_place b p ≡ true = rw d (h.hint i (rw (← d) more)) in
     h.clause p k n j (true_numbered t b f h p k n j (place_mem b p place) (sym e))

@@ -114,9 +114,6 @@ pub record Putting (b t₀ t : List ℕ) (p : ℕ) : Type 0 where
   pub rest : (x : ℕ) → Mem x (places_from b p) → Mem x (places b)
   pub done : (x : ℕ) → Mem x (places b) → Mem x (places_from b p) ⊎ Done b t x
 
-pub putting_starts : (b t : List ℕ) → Putting b t t 0
-putting_starts b t = record { around = record { long = refl; below = λ j h. refl; past = λ j h. refl }; rest = λ x m. m; done = λ x m. inl m }
-
 module _ (b t₀ t u : List ℕ) (p e : ℕ) (bytes : (i : ℕ) → get_or b i 0 < 256) (long : length t ≡ 26184) (h : p < length b) (ee : e ≡ field_end b p) (eu : u ≡ with_clause b p t)
     (w : Putting b t₀ t p) where
   next_places : places_from b p ≡ p ∷ places_from b (field_end b p)

@@ -21,7 +21,7 @@ use Rattle.tree_reader.specs.Inner.Positions.{KindsIn}
 use Rattle.tree_reader.proofs.Built.{sound_front, indexed_front}
 use Rattle.run_table.specs.Inner.Stands.{Stands}
 use Rattle.run_table.specs.Inner.Table.{span_entry, SpansAt, SpansAllAt}
-use Rattle.run_table.specs.Inner.Filling.{target_index, Below, Beside, LeafEnds, CodeAsks, Spanned, FieldAsks}
+use Rattle.run_table.specs.Inner.Filling.{target_index, Below, Beside, Leaf, CodeAsks, Spanned, FieldAsks}
 use Rattle.run_table.proofs.Standing.{stands_head, stands_both}
 
 empty_cons : {A : Type 0} {y : ℕ} {s : List ℕ} → [] ≡ y ∷ s → A
@@ -232,13 +232,13 @@ module _ (s index b : List ℕ) (k at n : ℕ) where
         absurd (omega (arith, q.1))
 
     -- The operands of a production.
-    pub turn_starts : (t : List ℕ) (m stop : ℕ) → length t ≡ 26184 → length b ≤ 4096 → m ≡ pair_at s place → stop ≡ place + 2 + m → KindsIn s (place + 4) stop
-        → Turn s index b k at n t t (place + 4) stop (at + 2)
+    pub turn_starts : (t : List ℕ) (first stop : ℕ) → length t ≡ 26184 → length b ≤ 4096 → first ≡ place + 4 → stop ≡ place + 2 + pair_at s place → KindsIn s first stop
+        → Turn s index b k at n t t first stop (at + 2)
     unfolding field_end
-    turn_starts t m stop long short em es kinds l given a w =
+    turn_starts t first stop long short ef es kinds l given a w =
         let d = noded l given w.typed w.stands w.within sign in
         let q = production l d.2 d.0 w.indexed d.4 d.5 in
-        let from : q.0 + 5 ≡ place + 4 = omega (arith, q.1) in
+        let from : q.0 + 5 ≡ first = omega (arith, q.1) in
         let one : q.0 + 1 ≡ place = omega (arith, q.1) in
         let to : q.0 + 3 + pair_at s (q.0 + 1) ≡ stop = rw one (omega (arith, q.1)) in
         let inside = code_inside b at a w.stands in (
@@ -321,40 +321,22 @@ pub ends_as : {s index b : List ℕ} {k at n : ℕ} {t₀ : List ℕ} {r : ℕ} 
     → (l : Language) (given : Uses) (a : Code) → CodeAsks s index b k at n l given a → Spanned t₀ u at a r
 ends_as u v e h l given a w = rw e (h l given a w)
 
--- leaf_end
-pub leaf_none : (b : List ℕ) (at : ℕ) → LeafEnds b at 0
-leaf_none b at = record {
-  inside = λ h. absurd (omega arith);
-  leaf = λ h. absurd (omega arith);
-  argument = λ h. absurd (omega arith);
-  other = λ h. absurd (omega arith);
-}
-
-module _ (b : List ℕ) (at : ℕ) (there : at < length b) where
-  pub leaf_argument : get_or b at 0 ≡ 3 → LeafEnds b at (at + 2)
-  leaf_argument e = record { inside = λ h. there; leaf = λ h d. omega arith; argument = λ h d. refl; other = λ h d. absurd (d e) }
-
-  pub leaf_other : (get_or b at 0 ≡ 1 → ⊥) → (get_or b at 0 ≡ 3 → ⊥) → LeafEnds b at (at + 3)
-  leaf_other n e = record { inside = λ h. there; leaf = λ h. n; argument = λ h d. absurd (e d); other = λ h d. refl }
-
 -- A leaf has no spans.
-pub span_leafed : (s index b : List ℕ) (k at n : ℕ) (t : List ℕ) (r : ℕ) → LeafEnds b at r → (r ≡ 0 → ⊥)
+pub span_leafed : (s index b : List ℕ) (k at n : ℕ) (t : List ℕ) (r : ℕ) → Leaf b at r
     → (l : Language) (given : Uses) (a : Code) → CodeAsks s index b k at n l given a → Spanned t t at a r
-span_leafed s index b k at n t r w pos l given a asks =
-    let more : 0 < r = omega (arith, pos) in
+span_leafed s index b k at n t r w l given a asks =
     by_test (eqb (get_or b at 0) 3)
     (λ e.
     let h : get_or b at 0 ≡ 3 = eqb-true _ _ e in
-    rw (w.argument more h) (span_argument s index b k at n t h l given a asks))
+    rw (w.argument h) (span_argument s index b k at n t h l given a asks))
     (λ e.
     let h : get_or b at 0 ≡ 3 → ⊥ = eqb-false _ _ e in
-    rw (w.other more h) (span_leaf s index b k at n t h (w.leaf more) l given a asks))
+    rw (w.other h) (span_leaf s index b k at n t h w.leaf l given a asks))
 
 -- Where a leaf ends, a code ends that is short enough.
-pub leaf_low : (b : List ℕ) (at r : ℕ) → length b ≤ 4096 → LeafEnds b at r → (r ≡ 0 → ⊥) → r ≤ 4102
-leaf_low b at r h w pos =
-    let more : 0 < r = omega (arith, pos) in
-    let i = w.inside more in
+pub leaf_low : (b : List ℕ) (at r : ℕ) → length b ≤ 4096 → Leaf b at r → r ≤ 4102
+leaf_low b at r h w =
+    let i = w.inside in
     by_test (eqb (get_or b at 0) 3)
-    (λ e. let q = w.argument more (eqb-true _ _ e) in omega arith)
-    (λ e. let q = w.other more (eqb-false _ _ e) in omega arith)
+    (λ e. let q = w.argument (eqb-true _ _ e) in omega arith)
+    (λ e. let q = w.other (eqb-false _ _ e) in omega arith)

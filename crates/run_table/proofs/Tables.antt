@@ -1,5 +1,5 @@
 -- The table: what each part of it holds, and what a run may rely on.
-use Prim.Native.Nat.{ℕ, zero, suc, ◌+◌, ◌-◌, ◌*◌, ◌≤◌, ◌<◌}
+use Prim.Native.Nat.{ℕ, zero, suc, ◌+◌, ◌-◌, ◌≤◌, ◌<◌}
 use mathlib.Core.Path.{◌≡◌, refl, sym, ap, ◌∙◌}
 use mathlib.Core.Bool.{true}
 use mathlib.Core.List.{List, [], ◌∷◌}
@@ -8,7 +8,6 @@ use mathlib.Core.Logic.{⊎_elim}
 use native.Mathlib.Omega.{arith}
 use native.Mathlib.Numerals.{add-one}
 use lib.ListN.{length, get_or, set, take, drop, length-drop}
-use borrow.Author.Tests.{ne_eqb}
 use Rattle.format_fields.specs.Fields.{pair_at}
 use Rattle.format_fields.specs.Lists.{is_some}
 use Rattle.format_fields.proofs.Truth.{Mem, none_some, some_is}
@@ -23,9 +22,9 @@ use Rattle.tree_reader.proofs.Laws.{kinds_in}
 use Rattle.tree_reader.proofs.Larger.{apart}
 use Rattle.format_translation.specs.Translation.{Translation, mapping_of, mapped}
 use Rattle.format_translation.specs.Running.{uses_of, clauses_of}
-use Rattle.format_translation.specs.Inner.Items.{is_clause_tag}
+use Rattle.format_translation.specs.Inner.Items.{is_clause_tag, code_start}
 use Rattle.format_translation.proofs.Fitting.{uses_are, fit_carries}
-use Rattle.run_table.specs.Inner.Table.{Production, Clause, Ready, Held, Checked, index_entry, clause_entry, code_start, clause_number}
+use Rattle.run_table.specs.Inner.Table.{Production, Clause, Ready, Held, Checked, index_entry, clause_entry}
 use Rattle.run_table.proofs.Spans.{place_some, below_then, spans_kept}
 use Rattle.run_table.proofs.Clauses.{code_at, whole, fits, body_rises, mem_place, place_mem, plain_start, numbered_start, numbered_found, clause_there, clause_found, clause_length}
 use Rattle.format_fields.specs.Inner.Places.{field_end, places, key_at, slot_at}
@@ -34,8 +33,8 @@ use Rattle.tree_reader.proofs.Placed.{puts_place, found}
 use Rattle.tree_reader.proofs.Built.{get_below, get_in, get_past, built_indexed}
 use Rattle.format_language.specs.Language.{Language, Range, arguments_of, production_key}
 use Rattle.format_language.specs.LanguageFile.{entries_of}
-use Rattle.run_table.specs.Inner.Filling.{target_index, Begun, Filled, mapped_by, Below, Beside, Hinted, AllSpanned, Itemed}
-use lib.Seq.{slice, length-slice, ext_get_or, take-suc, take_all, set_split, length-take-le, get_or-take, get_or-drop}
+use Rattle.run_table.specs.Inner.Filling.{target_index, Begun, Filled, Below, Beside, Hinted, AllSpanned, Itemed}
+use lib.Seq.{slice, length-slice, ext_get_or, take-suc, set_split, length-take-le, get_or-take, get_or-drop}
 use Rattle.format_fields.specs.Inner.Writing.{spliced}
 use Rattle.format_fields.proofs.Splices.{opened, splice_splice, length_spliced}
 use Rattle.run_table.specs.Inner.Stands.{Stands}
@@ -56,40 +55,9 @@ byte_put s o after a i v e h k ev =
     rw (n, take-suc s i 0 h, ← splice_splice o a (take i s) room (get_or s i 0 ∷ []), l, e, ev)
     (one_put (spliced o a (take i s)) (a + i) (get_or s i 0) (rw (length_spliced o a (take i s) room) (omega arith)))
 
-pub bytes_put : (s o after : List ℕ) (a i : ℕ) → after ≡ spliced o a (take i s) → i ≤ length s → length s ≤ i → after ≡ spliced o a s
-bytes_put s o after a i e h k = e ∙ ap (spliced o a) (take_all i s k)
-
 -- place_of
-pub place_is : (t : List ℕ) (k p a b : ℕ) → a ≡ k → b ≡ p → ((i : ℕ) → get_or t i 0 < 65536)
-    → (get_or t (8224 + (32 + (a * 256 + b))) 0 ≡ get_or (target_index t) (production_key k p) 0) × (get_or t (8224 + (32 + (a * 256 + b))) 0 < 65536)
-place_is t k p a b ea eb h = (rw (ea, eb) (sym (get_or-drop 8224 t (production_key k p) 0)), h (8224 + (32 + (a * 256 + b))))
-
--- mapped_by
-module _ (uses : List ℕ) (k j w x next : ℕ) (ew : w ≡ k) (ex : x ≡ j) (en : next ≡ get_or uses (w * 256 + x) 0) where
-  pub mapped_there : next - 1 ≡ mapped_by uses k j
-  unfolding mapped_by
-  mapped_there = rw (en, ew, ex)
-
-  pub mapped_none : next ≡ 0 → 0 ≡ mapped_by uses k j
-  mapped_none h = omega (arith, mapped_there)
-
--- number_at and code_start
-module _ (b : List ℕ) (p : ℕ) where
-  pub with_number : get_or b p 0 ≡ 0x29 → (x : ℕ) → x ≡ get_or b (p + 5) 0 → x ≡ clause_number b p
-  unfolding clause_number
-  with_number h x e = rw h e
-
-  pub no_number : (get_or b p 0 ≡ 0x29 → ⊥) → 0 ≡ clause_number b p
-  unfolding clause_number
-  no_number h = rw (ne_eqb (get_or b p 0) 0x29 h)
-
-  pub start_with : get_or b p 0 ≡ 0x29 → p + 6 ≡ code_start b p
-  unfolding code_start
-  start_with h = rw h
-
-  pub start_without : (get_or b p 0 ≡ 0x29 → ⊥) → p + 5 ≡ code_start b p
-  unfolding code_start
-  start_without h = rw (ne_eqb (get_or b p 0) 0x29 h)
+pub place_is : (t : List ℕ) {k p a b key : ℕ} → a ≡ k → b ≡ p → key ≡ production_key a b → get_or t (8224 + key) 0 ≡ get_or (target_index t) (production_key k p) 0
+place_is t {k} {p} ea eb ek = rw (ek, ea, eb) (sym (get_or-drop 8224 t (production_key k p) 0))
 
 -- fill
 module _ (s b t₁ t₂ t₃ : List ℕ) (long : length t₁ ≡ 26184) (short : length s ≤ 1024) (near : length b ≤ 4096) (e₂ : t₂ ≡ spliced t₁ 16448 s) (e₃ : t₃ ≡ spliced t₂ 17472 b) where
@@ -125,10 +93,6 @@ begun s g t u v long clear first a second c = record {
   target = second;
   hints = λ i. c.past (25664 + i) (omega arith) ∙ (a.past (25664 + i) (omega arith) ∙ clear (25664 + i));
 }
-
--- The second index goes into zeros.
-pub behind_zero : (t u : List ℕ) → ((j : ℕ) → get_or t j 0 ≡ 0) → Around t u 0 8224 → (j : ℕ) → j < 8224 → get_or u (8224 + j) 0 ≡ 0
-behind_zero t u clear a j h = a.past (8224 + j) (omega arith) ∙ clear (8224 + j)
 
 -- The index of the target, as it stands in the table when the spans are put.
 module _ (s g b t t₂ v y : List ℕ) (begins : Begun s g t) (w : Filled s b t t₂) (hinted : Hinted b t₂ v) (ranked : Beside v y) where

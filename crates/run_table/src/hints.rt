@@ -2,14 +2,15 @@
 // than 0 stands, and the ranks of the numbers that arguments are used by. No answer rests on them.
 ghost use Rattle.std.specs.Prelude.{◌≡◌, true, List, ℕ, ◌+◌, ◌<◌, ◌≤◌, length};
 ghost use Rattle.tree_reader.specs.Inner.Index.{table_length};
-ghost use Rattle.run_table.specs.Inner.Table.{hint_entry, code_start, is_place};
+ghost use Rattle.run_table.specs.Inner.Table.{hint_entry, is_place};
 ghost use Rattle.run_table.specs.Inner.Filling.{Hinted, Beside};
 
 use crate::table::{HINT_COUNT, HINTS, SOURCE, SPANS};
-use format_fields::bytes::{byte_at, pair_at, to_usize};
-use format_fields::walk::{MAPPING, NUMBERED, field_end};
+use format_fields::bytes::{byte_at, pair_at};
+use format_fields::walk::{KINDS, MAPPING, NAMES, NUMBERED, field_end};
 use format_translation::body::{NUMBERED_CLAUSE, is_clause};
-use tree_reader::node::USES;
+use format_translation::clause::code_start;
+use tree_reader::node::{NUMBERED_ARGUMENT, TOKEN, USES};
 
 // Keeps p as hint `next`, where a clause of a number other than 0 stands there, and answers which hint is the next. Behind
 // a clause of number 0 that is the one of rank 1.
@@ -20,10 +21,9 @@ fn put_hint(body: &[u8], p: usize, next: usize, table: &mut [u16]) -> usize
     if body[p] != NUMBERED_CLAUSE {
         return (p + 1) / 8 + 1;
     }
-    if HINT_COUNT <= next {
-        return next + 1;
+    if next < HINT_COUNT {
+        table[HINTS + next] = p as u16;
     }
-    table[HINTS + next] = p as u16;
     next + 1
 }
 
@@ -60,20 +60,9 @@ fn has_numbers(body: &[u8]) -> bool {
 // The rank of a mapping with this tag, behind one of a rank: a mapping by number 0 is the first of its kind.
 fn next_rank(tag: u8, rank: u8) -> u8 {
     if tag == MAPPING {
-        return 0;
-    }
-    if rank == 255 {
-        return 255;
-    }
-    rank + 1
-}
-
-// Puts a rank at a key, where there is room.
-fn put_rank(ranks: &mut [u8], key: usize, rank: u8)
-    ensures { length ranks.new ≡ length ranks.old }
-{
-    if key < ranks.len() {
-        ranks[key] = rank;
+        0
+    } else {
+        rank.saturating_add(1)
     }
 }
 
@@ -89,7 +78,9 @@ fn count_ranks(body: &[u8], ranks: &mut [u8])
             return;
         }
         rank = next_rank(body[p], rank);
-        put_rank(ranks, pair_at(body, p + 3), rank);
+        if let Some(kept) = ranks.get_mut(pair_at(body, p + 3)) {
+            *kept = rank;
+        }
         p = field_end(body, p);
     }
 }
@@ -98,11 +89,7 @@ fn count_ranks(body: &[u8], ranks: &mut [u8])
 fn entry_at(table: &[u16], i: usize) -> usize
     ensures { result < 65536 }
 {
-    if i < table.len() {
-        table[i] as usize
-    } else {
-        0
-    }
+    table.get(i).map_or(0, |&x| usize::from(x))
 }
 
 // Keeps the rank of the number that an argument is used by, where that stands at c in the body. The kinds of the arguments
@@ -111,15 +98,12 @@ fn rank_use(body: &[u8], c: usize, kinds: usize, ranks: &[u8], table: &mut [u16]
     requires { (length body.now ≤ 4096) × (kinds < 100000) × (length table.old ≡ table_length) }
     ensures { Beside table.old table.new }
 {
-    if body.len() <= c {
+    if body.get(c) != Some(&NUMBERED_ARGUMENT) {
         return;
     }
-    if body[c] != 4 {
-        return;
-    }
-    let kind = entry_at(table, kinds + to_usize(byte_at(body, c + 1)));
-    let rank = byte_at(ranks, kind * 256 + to_usize(byte_at(body, c + 2)));
-    table[SPANS + c] = rank as u16;
+    let kind = entry_at(table, kinds + usize::from(byte_at(body, c + 1)));
+    let rank = byte_at(ranks, kind * NAMES + usize::from(byte_at(body, c + 2)));
+    table[SPANS + c] = u16::from(rank);
 }
 
 // How many bytes a sign in a code takes with what belongs to it: two with a name or an argument, three with a token or an
@@ -127,13 +111,10 @@ fn rank_use(body: &[u8], c: usize, kinds: usize, ranks: &[u8], table: &mut [u16]
 fn sign_length(sign: u8) -> usize
     ensures { (2 ≤ result) × (result ≤ 3) }
 {
-    if sign == 2 {
-        return 3;
+    match sign {
+        TOKEN | NUMBERED_ARGUMENT => 3,
+        _ => 2,
     }
-    if sign == 4 {
-        return 3;
-    }
-    2
 }
 
 // Keeps the ranks in the code from `from` up to e.
@@ -148,17 +129,6 @@ fn rank_code(body: &[u8], from: usize, e: usize, kinds: usize, ranks: &[u8], tab
     }
 }
 
-// Where the code of the clause at p starts.
-pub fn code_start(body: &[u8], p: usize) -> usize
-    requires { (length body.now ≤ 4096) × (p < length body.now) }
-    ensures { (result ≡ code_start body.now p) × (result ≤ 4102) }
-{
-    if body[p] == NUMBERED_CLAUSE {
-        return p + 6;
-    }
-    p + 5
-}
-
 // Keeps the ranks in the code of the field from p up to e, where it is a clause.
 fn rank_field(body: &[u8], p: usize, e: usize, ranks: &[u8], table: &mut [u16])
     requires { (length body.now ≤ 4096) × (p < length body.now) × (e < 100000) × (length table.old ≡ table_length) }
@@ -167,7 +137,7 @@ fn rank_field(body: &[u8], p: usize, e: usize, ranks: &[u8], table: &mut [u16])
     if !is_clause(body[p]) {
         return;
     }
-    let place = entry_at(table, 32 + pair_at(body, p + 3));
+    let place = entry_at(table, KINDS + pair_at(body, p + 3));
     rank_code(
         body,
         code_start(body, p),

@@ -8,26 +8,28 @@ ghost use Rattle.format_translation.specs.Translation.{Translation};
 ghost use Rattle.format_translation.specs.Inner.ItemIndex.{Mapped};
 ghost use Rattle.format_fields.specs.Inner.Writing.{spliced};
 ghost use Rattle.tree_reader.specs.Inner.Index.{table_length};
-ghost use Rattle.run_table.specs.Inner.Table.{spans_start, clause_number, Checked, Ready};
-ghost use Rattle.run_table.specs.Inner.Filling.{target_index, Begun, Filled, Beside, mapped_by, LeafEnds, CodeAsks, Spanned, FieldAsks, FieldSpanned, AllSpanned, with_clause, Itemed};
+ghost use Rattle.run_table.specs.Inner.Table.{spans_start, Checked, Ready};
+ghost use Rattle.run_table.specs.Inner.Filling.{target_index, Begun, Filled, Beside, PlaceIs, LeafEnds, CodeAsks, Spanned, FieldAsks, FieldSpanned, AllSpanned, with_clause, Itemed};
 
-use crate::hints::{code_start, put_hints, put_ranks};
+use crate::hints::{put_hints, put_ranks};
 use crate::table::{BODY, ITEMS, SOURCE, SPANS};
-use format_fields::bytes::{byte_at, pair_at, to_usize};
+use format_fields::bytes::{byte_at, pair_at};
 use format_fields::walk::field_end;
 use format_language::entries::CLASS;
-use format_translation::body::{CLAUSE, NUMBERED_CLAUSE, is_clause};
+use format_translation::body::{CLAUSE, is_clause};
+use format_translation::clause::{clause_number, code_start};
+use format_translation::index::mapped_by;
 use tree_reader::index::{INDEX, TABLE, put_index};
+use tree_reader::node::{ARGUMENT, NAME};
+use tree_reader::operands::{KINDS, first_operand, last_operand, production_key};
 
 // Puts bytes into the table, from a position on.
 fn put_bytes(s: &[u8], a: usize, table: &mut [u16])
     requires { a + length s.now ≤ length table.old }
     ensures { table.new ≡ spliced table.old a s.now }
 {
-    let mut i = 0;
-    while i < s.len() {
-        table[a + i] = s[i] as u16;
-        i += 1;
+    for (i, &x) in s.iter().enumerate() {
+        table[a + i] = u16::from(x);
     }
 }
 
@@ -41,11 +43,14 @@ fn fill(source: &[u8], body: &[u8], table: &mut [u16])
 }
 
 // Where the field of a production of the target stands, and one more, by the index of the target in the table.
-fn place_of(table: &[u16], kind: u8, name: u8) -> usize
+fn place_of(table: &[u16], kind: u8, name: u8) -> Option<usize>
     requires { (length table.now ≡ table_length) × (kind < 32) }
-    ensures { (result ≡ get_or (target_index table.now) (production_key kind name) 0) × (result < 65536) }
+    ensures { PlaceIs (get_or (target_index table.now) (production_key kind name) 0) result }
 {
-    table[ITEMS + (32 + (to_usize(kind) * 256 + to_usize(name)))] as usize
+    match table[ITEMS + production_key(usize::from(kind), usize::from(name))] {
+        0 => None,
+        place => Some(usize::from(place)),
+    }
 }
 
 // Keeps where the production's code at a position of the body ends.
@@ -56,21 +61,16 @@ fn set_span(table: &mut [u16], at: usize, end: usize)
     table[SPANS + at] = end as u16;
 }
 
-// Where the leaf of a code at a position of the body ends; 0 where a production's code stands there, or nothing.
-fn leaf_end(body: &[u8], at: usize) -> usize
+// Where the leaf of a code at a position of the body ends, if no production's code stands there.
+fn leaf_end(body: &[u8], at: usize) -> Option<usize>
     requires { at ≤ 4102 }
     ensures { LeafEnds body.now at result }
 {
-    if body.len() <= at {
-        return 0;
+    match *body.get(at)? {
+        NAME => None,
+        ARGUMENT => Some(at + 2),
+        _ => Some(at + 3),
     }
-    if body[at] == 1 {
-        return 0;
-    }
-    if body[at] == 3 {
-        return at + 2;
-    }
-    at + 3
 }
 
 // Keeps where the code of a kind at a position of the body ends, and where each production's code in it does, and answers
@@ -88,60 +88,24 @@ fn span_code(
         × ((l : Language) (given : Uses) (a : Code) → CodeAsks target.now (target_index table.old) body.now kind at levels l given a
         → Spanned table.old table.new at a result) }
 {
-    if body.len() <= at {
+    if let Some(e) = leaf_end(body, at) {
+        return e;
+    }
+    if body.len() <= at || levels == 0 {
         return at;
     }
-    let sign = body[at];
-    if sign == 3 {
-        return at + 2;
-    }
-    if sign != 1 {
-        return at + 3;
-    }
-    if levels == 0 {
+    let Some(place) = place_of(table, kind, byte_at(body, at + 1)) else {
         return at;
-    }
-    let place = place_of(table, kind, byte_at(body, at + 1));
-    if place == 0 {
-        return at;
-    }
-    let stop = place + 2 + pair_at(target, place);
-    let mut q = place + 4;
+    };
     let mut c = at + 2;
-    while q < stop {
-        let e = leaf_end(body, c);
-        if e != 0 {
-            c = e;
-            q += 1;
-            continue;
-        }
-        c = span_code(target, body, target[q], c, levels - 1, table);
-        q += 1;
+    for q in first_operand(place)..last_operand(target, place) {
+        c = match leaf_end(body, c) {
+            Some(e) => e,
+            None => span_code(target, body, target[q], c, levels - 1, table),
+        };
     }
     set_span(table, at, c);
     c
-}
-
-// The kind that a kind maps to by a number, by the table of uses; 0 where it is not mapped.
-fn mapped_by(uses: &[u8], kind: u8, number: u8) -> u8
-    ensures { result ≡ mapped_by uses.now kind number }
-{
-    let next = byte_at(uses, to_usize(kind) * 256 + to_usize(number));
-    if next == 0 {
-        return 0;
-    }
-    next - 1
-}
-
-// The number of the clause at p.
-fn number_at(body: &[u8], p: usize) -> u8
-    requires { p < length body.now }
-    ensures { result ≡ clause_number body.now p }
-{
-    if body[p] == NUMBERED_CLAUSE {
-        return byte_at(body, p + 5);
-    }
-    0
 }
 
 // Keeps the spans of the code in the field of the body at a position, where it is a clause.
@@ -154,7 +118,7 @@ fn span_field(target: &[u8], body: &[u8], uses: &[u8], p: usize, table: &mut [u1
     if !is_clause(body[p]) {
         return;
     }
-    let kind = mapped_by(uses, byte_at(body, p + 3), number_at(body, p));
+    let kind = mapped_by(uses, byte_at(body, p + 3), clause_number(body, p));
     if 31 < kind {
         return;
     }
@@ -183,7 +147,7 @@ fn put_clause(body: &[u8], p: usize, table: &mut [u16])
     if body[p] != CLAUSE {
         return;
     }
-    let key = 32 + pair_at(body, p + 3);
+    let key = KINDS + pair_at(body, p + 3);
     if INDEX <= key {
         return;
     }
@@ -203,8 +167,9 @@ fn put_clauses(body: &[u8], table: &mut [u16])
     }
 }
 
-// Fills the table of a translation that was accepted, where it is lent as a slice.
-fn fill_all(source: &[u8], target: &[u8], body: &[u8], uses: &[u8], table: &mut [u16])
+// Fills the table of a translation that was accepted, by the bytes of its source, target and body and by what kinds map to by
+// number. The indexes of the source and of the target stand in the table, and it is all zero besides; that of the source stays.
+pub fn prepare(source: &[u8], target: &[u8], body: &[u8], uses: &[u8], table: &mut [u16; TABLE])
     requires { Begun source.now target.now table.old × ((f : Translation) × Checked source.now target.now body.now f) }
     ensures { Built 0x11 source.now table.new 0
         × ((f : Translation) → Checked source.now target.now body.now f → Mapped uses.now f.body → Ready table.new f) }
@@ -216,29 +181,11 @@ fn fill_all(source: &[u8], target: &[u8], body: &[u8], uses: &[u8], table: &mut 
     put_clauses(body, table);
 }
 
-// Fills the table of a translation that was accepted, by the bytes of its source, target and body and by what kinds map to by
-// number. The indexes of the source and of the target stand in the table, and it is all zero besides; that of the source stays.
-pub fn prepare(source: &[u8], target: &[u8], body: &[u8], uses: &[u8], table: &mut [u16; TABLE])
-    requires { Begun source.now target.now table.old × ((f : Translation) × Checked source.now target.now body.now f) }
-    ensures { Built 0x11 source.now table.new 0
-        × ((f : Translation) → Checked source.now target.now body.now f → Mapped uses.now f.body → Ready table.new f) }
-{
-    fill_all(source, target, body, uses, table);
-}
-
-// Puts the indexes of the source and of the target into a table that is all zero, where it is lent as a slice.
-fn put_indexes(source: &[u8], target: &[u8], table: &mut [u16])
-    requires { (length source.now ≤ 1024) × (length target.now ≤ 1024) × (length table.old ≡ table_length) × ((j : ℕ) → get_or table.old j 0 ≡ 0) }
-    ensures { Begun source.now target.now table.new }
-{
-    put_index(source, CLASS, 0, table);
-    put_index(target, CLASS, ITEMS, table);
-}
-
 // Puts the indexes of the source and of the target into a table that is all zero.
 pub fn begin(source: &[u8], target: &[u8], table: &mut [u16; TABLE])
     requires { (length source.now ≤ 1024) × (length target.now ≤ 1024) × ((j : ℕ) → get_or table.old j 0 ≡ 0) }
     ensures { Begun source.now target.now table.new }
 {
-    put_indexes(source, target, table);
+    put_index(source, CLASS, 0, table);
+    put_index(target, CLASS, ITEMS, table);
 }

@@ -1,5 +1,5 @@
 // The table that a run looks things up in: its length, where its parts start, and what stands in them.
-ghost use Rattle.std.specs.Prelude.{◌≡◌, true, List, ℕ, ◌+◌, ◌*◌, ◌<◌, ◌≤◌, length};
+ghost use Rattle.std.specs.Prelude.{◌≡◌, true, List, ℕ, ◌+◌, ◌*◌, ◌<◌, length, IfSome};
 ghost use Rattle.std.proofs.Math.Option.{some};
 ghost use Rattle.format_fields.specs.Lists.{is_some};
 ghost use Rattle.format_language.specs.Language.{arguments_of};
@@ -15,6 +15,7 @@ use format_language::check::LANGUAGE_LIMIT;
 use format_translation::body::NUMBERED_CLAUSE;
 use format_translation::parts::TRANSLATION_LIMIT;
 use tree_reader::index::{INDEX, TABLE};
+use tree_reader::operands::production_key;
 
 // Where the index of the target starts and, once that is no longer looked at, the places of the clauses of number 0, by kind and
 // name.
@@ -39,19 +40,12 @@ pub const HINT_COUNT: usize = 520;
 // A field with a number has at least six bytes, so none starts in the body from here on.
 const LAST_FIELD: usize = TRANSLATION_LIMIT - 5;
 
-// A number of the table as a position or a length.
-fn to_usize(x: u16) -> usize
-    ensures { (result ≡ x) × (result < 65536) }
-{
-    x as usize
-}
-
 // What the index of the source holds under a key.
 pub fn index_at(table: &[u16; TABLE], key: usize) -> usize
     requires { key < index_length }
     ensures { (result ≡ index_entry table.now key) × (result < 65536) }
 {
-    to_usize(table[key])
+    usize::from(table[key])
 }
 
 // Where the clause of number 0 of a production of the source stands, and one more, by its key.
@@ -59,7 +53,7 @@ pub fn clause_at(table: &[u16; TABLE], key: usize) -> usize
     requires { key < index_length }
     ensures { (result ≡ clause_entry table.now key) × (result < 65536) }
 {
-    to_usize(table[ITEMS + key])
+    usize::from(table[ITEMS + key])
 }
 
 // A byte of the source.
@@ -67,7 +61,7 @@ pub fn source_at(table: &[u16; TABLE], i: usize) -> usize
     requires { i < 1024 }
     ensures { (result ≡ source_byte table.now i) × (result < 65536) }
 {
-    to_usize(table[SOURCE + i])
+    usize::from(table[SOURCE + i])
 }
 
 // A byte of the body.
@@ -75,7 +69,7 @@ pub fn body_at(table: &[u16; TABLE], c: usize) -> usize
     requires { c < 4096 }
     ensures { (result ≡ body_byte table.now c) × (result < 65536) }
 {
-    to_usize(table[BODY + c])
+    usize::from(table[BODY + c])
 }
 
 // Where the code of the production at c in the body ends; where an argument is used by a number other than 0, the rank of
@@ -84,7 +78,7 @@ pub fn span_at(table: &[u16; TABLE], c: usize) -> usize
     requires { c < 4096 }
     ensures { (result ≡ span_entry table.now c) × (result < 65536) }
 {
-    to_usize(table[SPANS + c])
+    usize::from(table[SPANS + c])
 }
 
 // Where the code of a clause ends that starts at c in the body.
@@ -107,16 +101,10 @@ fn is_numbered(table: &[u16; TABLE], p: usize, kind: usize, name: usize, number:
     requires { p < 4091 }
     ensures { result ≡ numbered_is table.now p kind name number }
 {
-    if body_at(table, p) != NUMBERED_CLAUSE as usize {
-        return false;
-    }
-    if body_at(table, p + 3) != kind {
-        return false;
-    }
-    if body_at(table, p + 4) != name {
-        return false;
-    }
-    body_at(table, p + 5) == number
+    body_at(table, p) == usize::from(NUMBERED_CLAUSE)
+        && body_at(table, p + 3) == kind
+        && body_at(table, p + 4) == name
+        && body_at(table, p + 5) == number
 }
 
 // Where the field at p of the body ends.
@@ -142,24 +130,18 @@ fn walk_start(table: &[u16; TABLE], kind: usize, name: usize, number: usize) -> 
     p
 }
 
-// A place of the body that a hint holds, or 0: that of the clause of a rank, where `first` is the place of the clause of
-// number 0, and one more.
-fn hinted_place(table: &[u16; TABLE], first: usize, rank: usize) -> usize
+// The place of the body that a hint holds, where it holds one: that of the clause of a rank, where `first` is the place of the
+// clause of number 0, and one more.
+fn hinted_place(table: &[u16; TABLE], first: usize, rank: usize) -> Option<usize>
     requires { first < 65536 }
-    ensures { (result < 4091) × (0 < result → (i : ℕ) × (result ≡ hint_entry table.now i)) }
+    ensures { IfSome result (λ p. (0 < p) × (p < 4091) × ((i : ℕ) × (p ≡ hint_entry table.now i))) }
 {
-    if HINT_COUNT <= rank {
-        return 0;
-    }
-    let hint = first / 8 + rank;
+    let hint = (first / 8).checked_add(rank)?;
     if HINT_COUNT <= hint {
-        return 0;
+        return None;
     }
-    let p = to_usize(table[HINTS + hint]);
-    if LAST_FIELD <= p {
-        return 0;
-    }
-    p
+    let p = usize::from(table[HINTS + hint]);
+    (0 < p && p < LAST_FIELD).then_some(p)
 }
 
 // Where the code of the clause of a number other than 0 starts. The rank of the number among those of its kind, counted
@@ -174,36 +156,18 @@ pub fn numbered_start(
     requires { (kind < 32) × (name < 256) × ((f : Translation) × (ks : List ℕ) × Ready table.now f × (arguments_of f.source kind name ≡ some ks) × (is_some (mapping_of f.body kind number) ≡ true) × (0 < number)) }
     ensures { (f : Translation) (ks : List ℕ) → Ready table.now f → arguments_of f.source kind name ≡ some ks → is_some (mapping_of f.body kind number) ≡ true → Clause table.now result (clauses_of f kind name number) }
 {
-    let first = clause_at(table, 32 + (kind * 256 + name));
-    let p = hinted_place(table, first, rank);
-    if p == 0 {
-        return walk_start(table, kind, name, number);
+    let first = clause_at(table, production_key(kind, name));
+    match hinted_place(table, first, rank) {
+        Some(p) if is_numbered(table, p, kind, name, number) => p + 6,
+        _ => walk_start(table, kind, name, number),
     }
-    if is_numbered(table, p, kind, name, number) {
-        return p + 6;
-    }
-    walk_start(table, kind, name, number)
 }
 
 // The field at p of the body is a mapping of a kind by a number other than 0.
 fn is_mapping(table: &[u16; TABLE], p: usize, kind: usize) -> bool
     requires { p < 4091 }
 {
-    if body_at(table, p) != NUMBERED as usize {
-        return false;
-    }
-    body_at(table, p + 3) == kind
-}
-
-// A rank, and one more where the field at p is a mapping of a kind by a number other than 0.
-fn rank_behind(table: &[u16; TABLE], p: usize, kind: usize, rank: usize) -> usize
-    requires { (p < 4091) × (rank < 65536) }
-    ensures { result ≤ rank + 1 }
-{
-    if is_mapping(table, p, kind) {
-        return rank + 1;
-    }
-    rank
+    body_at(table, p) == usize::from(NUMBERED) && body_at(table, p + 3) == kind
 }
 
 // The rank of a number among those of a kind, counted from 0: the mappings of a kind follow each other by rising number.
@@ -216,13 +180,12 @@ pub fn rank_of(table: &[u16; TABLE], kind: usize, number: usize) -> usize
     let mut p = 0;
     let mut rank = 0;
     while p < LAST_FIELD {
-        let next = rank_behind(table, p, kind, rank);
-        if body_at(table, p + 4) == number {
-            if rank < next {
-                return next;
+        if is_mapping(table, p, kind) {
+            rank += 1;
+            if body_at(table, p + 4) == number {
+                return rank;
             }
         }
-        rank = next;
         p = end_of_field(table, p);
     }
     0

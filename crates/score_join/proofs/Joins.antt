@@ -1,4 +1,6 @@
 -- Joined loads put one behind the other: a law for each turn and each return of `join_figures`, `join_load` and `join_loads`.
+use Rattle.std.specs.Prelude as Std
+use Rattle.std.specs.Prelude.{Some, None}
 use Prim.Native.Nat.{ℕ, zero, suc, ◌+◌, ◌*◌, ◌-◌, ◌<◌, ◌≤◌}
 use mathlib.Core.Path.{◌≡◌, refl, sym, ap, ◌∙◌}
 use mathlib.Core.Bool.{Bool, true, false, ◌&&◌}
@@ -42,33 +44,21 @@ use Rattle.score_tree.specs.Figures.{figure_bytes, is_figure}
 use Rattle.score_tree.specs.LoadTable.{load_field, encode_table}
 use Rattle.score_tree.specs.Linear.{Loads, form}
 use Rattle.score_tree.specs.Inner.Terms.{TermAsks}
-use Rattle.score_tree.specs.declared.form.Formed.{Formed}
-use Rattle.score_tree.specs.declared.form.Formed.TheVariants as Ends
 use Rattle.score_join.specs.Joined.{place_fits, load_fits, joined_load, joined_table}
 use Rattle.score_join.specs.Inner.Loading.{Parts, clause_at, figures_bytes, load_bytes, LoadAsks, Puts}
-use Rattle.score_join.specs.declared.join.Joined.{Joined}
-use Rattle.score_join.specs.declared.join.Joined.TheVariants.{To, Outside}
+use Rattle.score_join.specs.declared.join.Held.{Held}
 use Rattle.score_join.proofs.Places.{RowOf, place_of, row_is, row_fits}
 use Rattle.score_join.proofs.Puts.{written_long}
 
 -- What an answer says.
-to_inj : {m n : ℕ} → To m ≡ To n → m ≡ n
-to_inj e = cc
-
-to_not : {A : Type 0} {m : ℕ} → To m ≡ Outside → A
-to_not e = let y : ◌≡◌ {A = ℕ} 0 1 = cc in absurd (omega arith)
-
-out_not : {A : Type 0} {m : ℕ} → Outside ≡ To m → A
-out_not e = let y : ◌≡◌ {A = ℕ} 0 1 = cc in absurd (omega arith)
-
-pub puts_done : {fits : Bool} {v o after : List ℕ} {n m : ℕ} → fits ≡ true → Written v o after n m → Puts fits v o after n (To m)
-puts_done {fits} {v} {o} {after} {n} h w = record {
-  done = λ k e. (h, rw (to_inj e) at w);
-  outside = λ e. to_not e;
+pub puts_done : {fits : Bool} {v o after : List ℕ} {n m : ℕ} → fits ≡ true → Written v o after n m → Puts fits v o after n (Some m)
+puts_done {fits} {v} {o} {after} {n} {m} h w = record {
+  done = λ k e. (h, (let i : m ≡ k = cc in rw i at w));
+  outside = λ e. cc;
 }
 
-pub puts_outside : {fits : Bool} {v o after : List ℕ} {n : ℕ} → fits ≡ false → Puts fits v o after n Outside
-puts_outside h = record { done = λ k e. out_not e; outside = λ e. h }
+pub puts_outside : {fits : Bool} {v o after : List ℕ} {n : ℕ} → fits ≡ false → Puts fits v o after n None
+puts_outside h = record { done = λ k e. cc; outside = λ e. h }
 
 -- The next of the numbers.
 count_next : (count j : ℕ) → j < count → count_up (count - j) j ≡ j ∷ count_up (count - (j + 1)) (j + 1)
@@ -111,7 +101,7 @@ module _ {w : Loads} {u : Code} {count : ℕ} {o after : List ℕ} {pos to j : �
       let e = v.place in
       (omega arith, l)
 
-  module _ {row : List ℤ} {end : ℕ} {r : Formed} (d : RowOf w u count row end r) (x : ℕ) (y : r ≡ Ends.To x) (h : j < count) (z : ℤ)
+  module _ {row : List ℤ} {end : ℕ} {r : Std.Option ℕ} (d : RowOf w u count row end r) (x : ℕ) (y : r ≡ Some x) (h : j < count) (z : ℤ)
       (ez : z ≡ place_of row j) where
     pub figure_outside : is_figure z ≡ false → all (place_fits w u) (count_up count 0) ≡ false
     figure_outside o = v.fits ∙ (fits_next w u count j h ∙ ap (λ (t : Bool). t && all (place_fits w u) (count_up (count - (j + 1)) (j + 1))) (row_fits d x y j h z ez false o))
@@ -134,7 +124,7 @@ module _ {w : Loads} {u : Code} {count : ℕ} {o after : List ℕ} {pos to j : �
           place = omega arith;
         }
 
-  pub figure_end : count ≤ j → Puts (all (place_fits w u) (count_up count 0)) (figures_bytes w u count 0) o after pos (To to)
+  pub figure_end : count ≤ j → Puts (all (place_fits w u) (count_up count 0)) (figures_bytes w u count 0) o after pos (Some to)
   unfolding figures_bytes count_up concat_map all
   figure_end h =
       let e : count - j ≡ 0 = omega arith in
@@ -180,7 +170,7 @@ module _ (f : Translation) (w : Loads) (s : List ℕ) (p count : ℕ) where
 
   -- The front of a load, and its figures.
   pub load_puts : (o after more : List ℕ) (pos to : ℕ) (size x y : ℕ) → size ≡ 2 + 2 * count → x ≡ get_or s (p + 3) 0 → y ≡ get_or s (p + 4) 0
-      → Written (0x24 ∷ (two_bytes size ++ (x ∷ y ∷ []))) o after pos to → (t : Bool) (r : Joined)
+      → Written (0x24 ∷ (two_bytes size ++ (x ∷ y ∷ []))) o after pos to → (t : Bool) (r : Std.Option ℕ)
       → Puts t (figures_bytes w (clause_at f s p) count 0) after more to r → Puts t (load_bytes f w s p count) o more pos r
   load_puts o after more pos to size x y es ex ey h t r u = record {
     done = λ m e.
@@ -191,8 +181,8 @@ module _ (f : Translation) (w : Loads) (s : List ℕ) (p count : ℕ) where
   }
 
 -- A production's field has its first five bytes, and stands in a source of at most 1,024.
-pub production_in : {s t index b items : List ℕ} {fig : List ℤ} {p count : ℕ} {f : Translation} {w : Loads} → LoadAsks s t index b items fig p count f w
-    → (p + 5 ≤ length s) × (length s ≤ 1024)
+pub production_in : {hd : Held} {p count : ℕ} {f : Translation} {w : Loads} → LoadAsks hd p count f w
+    → (p + 5 ≤ length hd.source.now) × (length hd.source.now ≤ 1024)
 unfolding field_end
 production_in a = let c = a.production.fits in let d = a.production.two in (omega arith, a.parts.checked.pieces.source_short)
 
@@ -202,27 +192,26 @@ clause_some s zero c e = none_some e
 clause_some s (suc q) c e = (q, refl, some_inj e)
 
 -- The code of a production's clause stands in the body.
-module _ {s t index b items : List ℕ} {fig : List ℤ} {p count : ℕ} {f : Translation} {w : Loads} (a : LoadAsks s t index b items fig p count f w)
-    (bytes : (i : ℕ) → get_or s i 0 < 256) (body_bytes : (i : ℕ) → get_or b i 0 < 256) where
+module _ {hd : Held} {p count : ℕ} {f : Translation} {w : Loads} (a : LoadAsks hd p count f w) where
   abbrev k : ℕ
-  k = get_or s (p + 3) 0
+  k = get_or hd.source.now (p + 3) 0
 
   abbrev n : ℕ
-  n = get_or s (p + 4) 0
+  n = get_or hd.source.now (p + 4) 0
 
-  abbrev z : Checked s t b f
+  abbrev z : Checked hd.source.now hd.target.language.now hd.body.now f
   z = a.parts.checked
 
   pub kind_in : k < 32
   kind_in = a.production.kind
 
-  pub key_is : (32 + pair_at s (p + 3) ≡ production_key k n) × (32 + pair_at s (p + 3) < 8224)
+  pub key_is : (32 + pair_at hd.source.now (p + 3) ≡ production_key k n) × (32 + pair_at hd.source.now (p + 3) < 8224)
   unfolding pair_at
   key_is =
       let e : p + 3 + 1 ≡ p + 4 = omega arith in
-      let d : get_or s (p + 3 + 1) 0 ≡ n = ap (λ (i : ℕ). get_or s i 0) e in
+      let d : get_or hd.source.now (p + 3 + 1) 0 ≡ n = ap (λ (i : ℕ). get_or hd.source.now i 0) e in
       let c = kind_in in
-      let m = bytes (p + 4) in
+      let m = a.parts.source_bytes (p + 4) in
       (omega arith, omega arith)
 
   -- The clause of number 0 that the production has: its bytes, and the code that is read of them.
@@ -247,45 +236,45 @@ module _ {s t index b items : List ℕ} {fig : List ℤ} {p count : ℕ} {f : Tr
         same = clause_code f (Clauses.body_rises z) k n 0 c u m r;
       }
 
-  pub clause_term : (kind place at pair : ℕ) → kind ≡ mapped_at b items k → kind < 32 → pair ≡ pair_at s (p + 3) → place ≡ get_or items (32 + pair) 0 → at ≡ place + 4
-      → TermAsks t index fig b kind at 16 f.target (uses_of f k n) w (clause_at f s p)
+  pub clause_term : (kind place at pair : ℕ) → kind ≡ mapped_at hd.body.now hd.items.now k → kind < 32 → pair ≡ pair_at hd.source.now (p + 3) → place ≡ get_or hd.items.now (32 + pair) 0 → at ≡ place + 4
+      → TermAsks hd.target hd.body.now kind at 16 f.target (uses_of f k n) w (clause_at f hd.source.now p)
   unfolding read_clause field_end
   clause_term kind place at pair ek hk er ep ea =
       let x = a.parts.indexed in
-      let few = bytes (p + 4) in
+      let few = a.parts.source_bytes (p + 4) in
       let v = coded in
       let c = v.bytes_are in
       let u = v.code_is in
-      let (q, is, part) = clause_some b (get_or items (production_key k n) 0) c (sym (x.clause k n kind_in few) ∙ v.listed) in
-      let found : place ≡ suc q = ep ∙ (ap (λ (i : ℕ). get_or items (32 + i) 0) er ∙ (ap (λ (i : ℕ). get_or items i 0) key_is.0 ∙ is)) in
+      let (q, is, part) = clause_some hd.body.now (get_or hd.items.now (production_key k n) 0) c (sym (x.clause k n kind_in few) ∙ v.listed) in
+      let found : place ≡ suc q = ep ∙ (ap (λ (i : ℕ). get_or hd.items.now (32 + i) 0) er ∙ (ap (λ (i : ℕ). get_or hd.items.now i 0) key_is.0 ∙ is)) in
       let sound = x.sound.code k n kind_in few (omega (arith, is)) in
-      let pr : pair_at b (get_or items (production_key k n) 0) ≡ pair_at b (q + 1) = ap (pair_at b) (is ∙ sym (add-one q)) in
-      let lo : q + 5 ≤ q + 3 + pair_at b (q + 1) = omega (arith, sound.0, pr) in
-      let hi : q + 3 + pair_at b (q + 1) ≤ length b = omega (arith, sound.1, pr, is) in
+      let pr : pair_at hd.body.now (get_or hd.items.now (production_key k n) 0) ≡ pair_at hd.body.now (q + 1) = ap (pair_at hd.body.now) (is ∙ sym (add-one q)) in
+      let lo : q + 5 ≤ q + 3 + pair_at hd.body.now (q + 1) = omega (arith, sound.0, pr) in
+      let hi : q + 3 + pair_at hd.body.now (q + 1) ≤ length hd.body.now = omega (arith, sound.1, pr, is) in
       let d = read_done code f.target (uses_of f k n) code_levels (mapped f.body k 0) c u [] v.read_is in
-      let piece : slice (q + 5) (q + 3 + pair_at b (q + 1)) b ≡ take (q + 3 + pair_at b (q + 1) - (q + 5)) (drop (q + 5) b) = slice_is b (q + 5) (q + 3 + pair_at b (q + 1)) lo hi in
-      let small : Bytes c = rw (← part) (part_small (q + 5) (q + 3 + pair_at b (q + 1))) in
+      let piece : slice (q + 5) (q + 3 + pair_at hd.body.now (q + 1)) hd.body.now ≡ take (q + 3 + pair_at hd.body.now (q + 1) - (q + 5)) (drop (q + 5) hd.body.now) = slice_is hd.body.now (q + 5) (q + 3 + pair_at hd.body.now (q + 1)) lo hi in
+      let small : Bytes c = rw (← part) (part_small (q + 5) (q + 3 + pair_at hd.body.now (q + 1))) in
       let is_code : c ≡ write code u = (d.2 small).0 ∙ append-nil (write code u) in
-      let long : length (write code u) ≡ q + 3 + pair_at b (q + 1) - (q + 5) = ap length (sym is_code) ∙ (ap length (sym part) ∙ length-slice (q + 5) (q + 3 + pair_at b (q + 1)) b hi) in
-      let stands : Stands b (q + 5) (write code u) = record {
+      let long : length (write code u) ≡ q + 3 + pair_at hd.body.now (q + 1) - (q + 5) = ap length (sym is_code) ∙ (ap length (sym part) ∙ length-slice (q + 5) (q + 3 + pair_at hd.body.now (q + 1)) hd.body.now hi) in
+      let stands : Stands hd.body.now (q + 5) (write code u) = record {
         inside = omega (arith, long);
-        bytes = ap (λ (i : ℕ). take i (drop (q + 5) b)) long ∙ (sym piece ∙ (part ∙ is_code));
+        bytes = ap (λ (i : ℕ). take i (drop (q + 5) hd.body.now)) long ∙ (sym piece ∙ (part ∙ is_code));
       } in
       let spot : q + 5 ≡ at = omega (arith, found, ea) in
       record {
         world = a.parts.world;
         plain = λ i j g e. use_zero f a.parts.plain_body k n i j g e;
-        typed = rw (ek ∙ mapped_is b items f.body x k kind_in, v.same) d.0;
+        typed = rw (ek ∙ mapped_is hd.body.now hd.items.now f.body x k kind_in, v.same) d.0;
         kind = hk;
         stands = rw (v.same, ← spot) stands;
         levels = rw v.same d.1;
       }
     where
-      part_small : (i e : ℕ) → Bytes (slice i e b)
+      part_small : (i e : ℕ) → Bytes (slice i e hd.body.now)
       part_small i e =
-          let whole : Bytes b = bytes_from b (λ j l. body_bytes j) in
-          let h : Bytes (take e b) = (each_front _ (take e b) (drop e b) (rw (← lib.ListN.take-append-drop e b) at whole)).0 in
-          (each_front _ (take i (take e b)) (drop i (take e b)) (rw (← lib.ListN.take-append-drop i (take e b)) at h)).1
+          let whole : Bytes hd.body.now = bytes_from hd.body.now (λ j l. a.parts.body_bytes j) in
+          let h : Bytes (take e hd.body.now) = (each_front _ (take e hd.body.now) (drop e hd.body.now) (rw (← lib.ListN.take-append-drop e hd.body.now) at whole)).0 in
+          (each_front _ (take i (take e hd.body.now)) (drop i (take e hd.body.now)) (rw (← lib.ListN.take-append-drop i (take e hd.body.now)) at h)).1
 
 -- Where the loop of `join_loads` stands: the loads before p are put.
 pub record Joins (s : List ℕ) (f : Translation) (w : Loads) (o after : List ℕ) (p n : ℕ) : Type 0 where
@@ -315,14 +304,14 @@ production_fits : (f : Translation) (w : Loads) (s : List ℕ) (p : ℕ) (ks : L
 unfolding all load_fits
 production_fits f w s p ks l = refl
 
-module _ {s t index b items : List ℕ} {fig : List ℤ} {f : Translation} {w : Loads} (a : Parts s t index b items fig f w) where
-  held : Holds s f.source
-  held = holds_entries s f.source a.checked.pieces.source
+module _ {hd : Held} {f : Translation} {w : Loads} (a : Parts hd f w) where
+  held : Holds hd.source.now f.source
+  held = holds_entries hd.source.now f.source a.checked.pieces.source
 
   source_rises : Rising entry_key f.source
   source_rises = is_rising entry_key f.source (rises_parts f (Clauses.whole a.checked).0.rises).0
 
-  pub joins_begin : (o : List ℕ) → Joins s f w o o 0 0
+  pub joins_begin : (o : List ℕ) → Joins hd.source.now f w o o 0 0
   unfolding joined_table
   joins_begin o = record {
     done = [];
@@ -333,53 +322,53 @@ module _ {s t index b items : List ℕ} {fig : List ℤ} {f : Translation} {w : 
     room = omega arith;
   }
 
-  module _ {o after : List ℕ} {p n : ℕ} (v : Joins s f w o after p n) where
-    pub joins_end : length s ≤ p → Puts (all (load_fits f w) f.source) (encode_table (joined_table f w)) o after 0 (To n)
+  module _ {o after : List ℕ} {p n : ℕ} (v : Joins hd.source.now f w o after p n) where
+    pub joins_end : length hd.source.now ≤ p → Puts (all (load_fits f w) f.source) (encode_table (joined_table f w)) o after 0 (Some n)
     unfolding concat_map all encode_table encode_fields
     joins_end h =
-        let e : places_from s p ≡ [] = places_done s p h in
+        let e : places_from hd.source.now p ≡ [] = places_done hd.source.now p h in
         let d : v.done ≡ encode_table (joined_table f w) =
-        sym (append-nil v.done) ∙ (ap (λ (l : List ℕ). v.done ++ encode_table (concat_map (joined_load f w) (map (entry_at s) l))) (sym e) ∙ v.rest) in
-        puts_done (v.fits ∙ ap (λ (l : List ℕ). all (load_fits f w) (map (entry_at s) l)) e) (rw (← d) v.put)
+        sym (append-nil v.done) ∙ (ap (λ (l : List ℕ). v.done ++ encode_table (concat_map (joined_load f w) (map (entry_at hd.source.now) l))) (sym e) ∙ v.rest) in
+        puts_done (v.fits ∙ ap (λ (l : List ℕ). all (load_fits f w) (map (entry_at hd.source.now) l)) e) (rw (← d) v.put)
 
-    module _ (here : p < length s) where
-      next : places_from s p ≡ p ∷ places_from s (field_end s p)
-      next = places_next s p here
+    module _ (here : p < length hd.source.now) where
+      next : places_from hd.source.now p ≡ p ∷ places_from hd.source.now (field_end hd.source.now p)
+      next = places_next hd.source.now p here
 
-      in_places : Mem p (places s)
+      in_places : Mem p (places hd.source.now)
       in_places = v.there p (rw next (inl refl))
 
-      entry : IsClass s p ⊎ IsProduction s p
-      entry = entry_facts s p (all_mem (entry_whole s) (places s) held.whole p in_places)
+      entry : IsClass hd.source.now p ⊎ IsProduction hd.source.now p
+      entry = entry_facts hd.source.now p (all_mem (entry_whole hd.source.now) (places hd.source.now) held.whole p in_places)
 
-      is_production : get_or s p 0 ≡ 0x12 → IsProduction s p
+      is_production : get_or hd.source.now p 0 ≡ 0x12 → IsProduction hd.source.now p
       is_production h = ⊎_elim (λ c. let g = c.tag in absurd (omega arith)) (λ c. c) entry
 
-      is_class : (get_or s p 0 ≡ 0x12 → ⊥) → IsClass s p
+      is_class : (get_or hd.source.now p 0 ≡ 0x12 → ⊥) → IsClass hd.source.now p
       is_class h = ⊎_elim (λ c. c) (λ c. absurd (h c.tag)) entry
 
       -- What the code may ask of the entry at p.
-      pub entry_in : (p + 5 ≤ field_end s p) × (field_end s p ≤ length s) × (length s ≤ 1024)
+      pub entry_in : (p + 5 ≤ field_end hd.source.now p) × (field_end hd.source.now p ≤ length hd.source.now) × (length hd.source.now ≤ 1024)
       unfolding field_end
       entry_in =
           let short = a.checked.pieces.source_short in
           ⊎_elim (λ c. (⊎_elim (λ m. omega arith) (λ m. omega arith) c.size, c.fits, short)) (λ c. (let m = c.two in omega arith, c.fits, short)) entry
 
-      rest_here : v.done ++ encode_table (concat_map (joined_load f w) (entry_at s p ∷ map (entry_at s) (places_from s (field_end s p)))) ≡ encode_table (joined_table f w)
-      rest_here = ap (λ (l : List ℕ). v.done ++ encode_table (concat_map (joined_load f w) (map (entry_at s) l))) (sym next) ∙ v.rest
+      rest_here : v.done ++ encode_table (concat_map (joined_load f w) (entry_at hd.source.now p ∷ map (entry_at hd.source.now) (places_from hd.source.now (field_end hd.source.now p)))) ≡ encode_table (joined_table f w)
+      rest_here = ap (λ (l : List ℕ). v.done ++ encode_table (concat_map (joined_load f w) (map (entry_at hd.source.now) l))) (sym next) ∙ v.rest
 
-      fits_here : all (load_fits f w) f.source ≡ all (load_fits f w) (entry_at s p ∷ map (entry_at s) (places_from s (field_end s p)))
-      fits_here = v.fits ∙ ap (λ (l : List ℕ). all (load_fits f w) (map (entry_at s) l)) next
+      fits_here : all (load_fits f w) f.source ≡ all (load_fits f w) (entry_at hd.source.now p ∷ map (entry_at hd.source.now) (places_from hd.source.now (field_end hd.source.now p)))
+      fits_here = v.fits ∙ ap (λ (l : List ℕ). all (load_fits f w) (map (entry_at hd.source.now) l)) next
 
-      there_next : (x : ℕ) → Mem x (places_from s (field_end s p)) → Mem x (places s)
+      there_next : (x : ℕ) → Mem x (places_from hd.source.now (field_end hd.source.now p)) → Mem x (places hd.source.now)
       there_next x m = v.there x (rw next (inr m))
 
-      pub joins_class : (get_or s p 0 ≡ 0x12 → ⊥) → (e : ℕ) → e ≡ field_end s p → Joins s f w o after e n
+      pub joins_class : (get_or hd.source.now p 0 ≡ 0x12 → ⊥) → (e : ℕ) → e ≡ field_end hd.source.now p → Joins hd.source.now f w o after e n
       joins_class h e ee =
           let i = entry_in in
           let r = v.room in
-          let c = class_is s p (is_class h) in
-          let l = map (entry_at s) (places_from s (field_end s p)) in
+          let c = class_is hd.source.now p (is_class h) in
+          let l = map (entry_at hd.source.now) (places_from hd.source.now (field_end hd.source.now p)) in
           rw ee (record {
             done = v.done;
             put = v.put;
@@ -389,65 +378,65 @@ module _ {s t index b items : List ℕ} {fig : List ℤ} {f : Translation} {w : 
             room = omega (arith, i.0);
           })
 
-      module _ (tag : get_or s p 0 ≡ 0x12) where
+      module _ (tag : get_or hd.source.now p 0 ≡ 0x12) where
         kinds_are : List ℕ
-        kinds_are = slice (p + 5) (field_end s p) s
+        kinds_are = slice (p + 5) (field_end hd.source.now p) hd.source.now
 
-        entry_is : entry_at s p ≡ production (get_or s (p + 3) 0) (get_or s (p + 4) 0) kinds_are
+        entry_is : entry_at hd.source.now p ≡ production (get_or hd.source.now (p + 3) 0) (get_or hd.source.now (p + 4) 0) kinds_are
         unfolding kinds_are
-        entry_is = production_is s p (is_production tag)
+        entry_is = production_is hd.source.now p (is_production tag)
 
-        count_is : (e : ℕ) → e ≡ field_end s p → e - p - 4 ≡ suc (length kinds_are)
+        count_is : (e : ℕ) → e ≡ field_end hd.source.now p → e - p - 4 ≡ suc (length kinds_are)
         unfolding kinds_are
-        count_is e ee = let i = entry_in in let l = length-slice (p + 5) (field_end s p) s i.1 in omega (arith, i.0, l)
+        count_is e ee = let i = entry_in in let l = length-slice (p + 5) (field_end hd.source.now p) hd.source.now i.1 in omega (arith, i.0, l)
 
-        pub load_asks : (count : ℕ) → LoadAsks s t index b items fig p count f w
+        pub load_asks : (count : ℕ) → LoadAsks hd p count f w
         load_asks count = record {
           parts = a;
           production = is_production tag;
           kinds = kinds_are;
-          known = mem_arguments f.source source_rises _ _ kinds_are (rw (← entry_is) (rw (← held.entries) (mem_map (entry_at s) p (places s) in_places)));
+          known = mem_arguments f.source source_rises _ _ kinds_are (rw (← entry_is) (rw (← held.entries) (mem_map (entry_at hd.source.now) p (places hd.source.now) in_places)));
         }
 
         -- A load has a constant and at most eight factors.
-        pub join_few : (e : ℕ) → e ≡ field_end s p → (0 < e - p - 4) × (e - p - 4 ≤ 9)
+        pub join_few : (e : ℕ) → e ≡ field_end hd.source.now p → (0 < e - p - 4) × (e - p - 4 ≤ 9)
         unfolding field_end
         join_few e ee = let i = (is_production tag).two in let m = (is_production tag).ten in (omega arith, omega arith)
 
-        pub join_room : (e : ℕ) → e ≡ field_end s p → n + 5 + 2 * (e - p - 4) ≤ 2048
+        pub join_room : (e : ℕ) → e ≡ field_end hd.source.now p → n + 5 + 2 * (e - p - 4) ≤ 2048
         join_room e ee = let i = entry_in in let r = v.room in omega (arith, i.0, i.1, i.2)
 
-        module _ (e : ℕ) (ee : e ≡ field_end s p) (more : List ℕ) (r : Joined)
-            (u : Puts (all (place_fits w (clause_at f s p)) (count_up (e - p - 4) 0)) (load_bytes f w s p (e - p - 4)) after more n r) where
+        module _ (e : ℕ) (ee : e ≡ field_end hd.source.now p) (more : List ℕ) (r : Std.Option ℕ)
+            (u : Puts (all (place_fits w (clause_at f hd.source.now p)) (count_up (e - p - 4) 0)) (load_bytes f w hd.source.now p (e - p - 4)) after more n r) where
           l : Language
-          l = map (entry_at s) (places_from s (field_end s p))
+          l = map (entry_at hd.source.now) (places_from hd.source.now (field_end hd.source.now p))
 
-          test : (all (place_fits w (clause_at f s p)) (count_up (e - p - 4) 0) && all (load_fits f w) l) ≡ all (load_fits f w) f.source
+          test : (all (place_fits w (clause_at f hd.source.now p)) (count_up (e - p - 4) 0) && all (load_fits f w) l) ≡ all (load_fits f w) f.source
           unfolding l
           test =
-              ap (λ (m : ℕ). all (place_fits w (clause_at f s p)) (count_up m 0) && all (load_fits f w) l) (count_is e ee)
-              ∙ (sym (production_fits f w s p kinds_are l) ∙ (ap (λ (x : Entry). all (load_fits f w) (x ∷ l)) (sym entry_is) ∙ sym fits_here))
+              ap (λ (m : ℕ). all (place_fits w (clause_at f hd.source.now p)) (count_up m 0) && all (load_fits f w) l) (count_is e ee)
+              ∙ (sym (production_fits f w hd.source.now p kinds_are l) ∙ (ap (λ (x : Entry). all (load_fits f w) (x ∷ l)) (sym entry_is) ∙ sym fits_here))
 
-          pub joins_outside : r ≡ Outside → all (load_fits f w) f.source ≡ false
+          pub joins_outside : r ≡ None → all (load_fits f w) f.source ≡ false
           joins_outside y = sym test ∙ ap (λ (x : Bool). x && all (load_fits f w) l) (u.outside y)
 
-          pub joins_next : (m : ℕ) → r ≡ To m → Joins s f w o more e m
+          pub joins_next : (m : ℕ) → r ≡ Some m → Joins hd.source.now f w o more e m
           unfolding l
           joins_next m y =
               let d = u.done m y in
               let long = written_long v.done o after 0 n v.put in
               let i = entry_in in
               let k = v.room in
-              let q = load_long f w s p (e - p - 4) in
+              let q = load_long f w hd.source.now p (e - p - 4) in
               let x = d.1.end in
-              let z : field_end s p ≡ e = sym ee in
+              let z : field_end hd.source.now p ≡ e = sym ee in
               rw ee (record {
-                done = v.done ++ load_bytes f w s p (e - p - 4);
-                put = written_then v.done (load_bytes f w s p (e - p - 4)) o after more 0 n m v.put d.1 long;
+                done = v.done ++ load_bytes f w hd.source.now p (e - p - 4);
+                put = written_then v.done (load_bytes f w hd.source.now p (e - p - 4)) o after more 0 n m v.put d.1 long;
                 rest =
-                    append_assoc v.done (load_bytes f w s p (e - p - 4)) (encode_table (concat_map (joined_load f w) l))
-                    ∙ (ap (λ (c : ℕ). v.done ++ (load_bytes f w s p c ++ encode_table (concat_map (joined_load f w) l))) (count_is e ee)
-                    ∙ (ap (λ (c : List ℕ). v.done ++ c) (sym (ap (λ (c : Entry). encode_table (concat_map (joined_load f w) (c ∷ l))) entry_is ∙ production_bytes f w s p kinds_are l)) ∙ rest_here));
+                    append_assoc v.done (load_bytes f w hd.source.now p (e - p - 4)) (encode_table (concat_map (joined_load f w) l))
+                    ∙ (ap (λ (c : ℕ). v.done ++ (load_bytes f w hd.source.now p c ++ encode_table (concat_map (joined_load f w) l))) (count_is e ee)
+                    ∙ (ap (λ (c : List ℕ). v.done ++ c) (sym (ap (λ (c : Entry). encode_table (concat_map (joined_load f w) (c ∷ l))) entry_is ∙ production_bytes f w hd.source.now p kinds_are l)) ∙ rest_here));
                 fits = sym test ∙ ap (λ (c : Bool). c && all (load_fits f w) l) d.0;
                 there = there_next;
                 room = omega (arith, i.0, q, x, ee);

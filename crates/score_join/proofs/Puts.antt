@@ -1,5 +1,5 @@
 -- Bytes that fit: a law for each return of `put_figure` and `put_head`.
-use Prim.Native.Nat.{ℕ, suc, ◌+◌, ◌<◌, ◌≤◌}
+use Prim.Native.Nat.{ℕ, suc, ◌+◌, ◌≤◌}
 use mathlib.Core.Path.{◌≡◌, ap, ◌∙◌}
 use mathlib.Core.List.{List, [], ◌∷◌, ◌++◌}
 use native.Mathlib.Omega.{arith}
@@ -27,24 +27,12 @@ module _ (size x y : ℕ) (o : List ℕ) (pos : ℕ) (room : pos + 5 ≤ length 
   first_long : length (set o pos 0x24) ≡ length o
   first_long = length-set o pos 0x24
 
-  pub head_first : pos + 1 + 2 ≤ length (set o pos 0x24)
-  head_first = omega (arith, first_long)
-
   module _ (q : List ℕ) (eq : q ≡ spliced (set o pos 0x24) (pos + 1) (two_bytes size)) where
     two : Written (two_bytes size) (set o pos 0x24) q (pos + 1) (pos + 3)
     two = record { end = omega arith; fits = omega (arith, first_long); bytes = eq }
 
     long : length q ≡ length o
     long = written_long _ (set o pos 0x24) q (pos + 1) (pos + 3) two ∙ first_long
-
-    pub head_third : pos + 3 < length q
-    head_third = omega (arith, long)
-
-    pub head_fourth : pos + 4 < length (set q (pos + 3) x)
-    head_fourth = omega (arith, long, length-set q (pos + 3) x)
-
-    pub head_same : length (set (set q (pos + 3) x) (pos + 4) y) ≡ length o
-    head_same = length-set (set q (pos + 3) x) (pos + 4) y ∙ (length-set q (pos + 3) x ∙ long)
 
     pub head_put : Written (0x24 ∷ (two_bytes size ++ (x ∷ y ∷ []))) o (set (set q (pos + 3) x) (pos + 4) y) pos (pos + 5)
     head_put =

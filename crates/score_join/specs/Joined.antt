@@ -1,8 +1,7 @@
 -- A load table joined onto a translation (paper 02, 2026-03): it gives a source tree the score that the table gives its run. The
 -- translation has number 0 only (paper 02, 2026-13).
 use Rattle.std.specs.Prelude.{ℕ, suc, Bool, true, not, ◌&&◌, List, [], ◌∷◌, map, length}
-use Rattle.outcome.specs.Outcome.{Result, value, refuse_if, ◌>>=◌, written, output_after}
-use Rattle.outcome.specs.declared.Outcome.{Outcome}
+use Rattle.outcome.specs.Outcome.{Result, value, refuse_if, ◌>>=◌, written, output_after, Outcome}
 use Rattle.outcome.specs.declared.Reason.TheVariants.{NumberUnfit, ValueTooLarge}
 use Rattle.format_fields.specs.Lists.{all, concat_map, count_up}
 use Rattle.format_language.specs.Language.{Entry, class, production}

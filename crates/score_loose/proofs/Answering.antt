@@ -3,15 +3,19 @@ use Prim.Native.Nat.{ℕ}
 use mathlib.Core.Path.{◌≡◌, refl, sym, ap, ◌∙◌}
 use mathlib.Core.Bool.{Bool, true, false, not}
 use mathlib.Core.List.{List, [], ◌∷◌}
-use lib.IntN.{ℤ}
+use lib.IntN.{ℤ, pos}
+use Rattle.std.specs.Prelude as Std
+use Rattle.std.specs.Prelude.{Ok, Err}
+use Rattle.score_tree.specs.declared.figures.Ends.{Ends as Both}
+use Rattle.score_tree.specs.declared.walk.Tokens.TheVariants as Kinds
 use Rattle.outcome.specs.Outcome.{Result, value, refused, refuse_if, ◌>>=◌, checked}
-use Rattle.outcome.specs.declared.Outcome.{Outcome}
+use Rattle.outcome.specs.declared.Reason.{Reason}
 use Rattle.outcome.specs.declared.Reason.TheVariants.{ScoreOutOfRange}
 use Rattle.format_language.specs.Language.{Language}
 use Rattle.tree_reader.specs.Syntax.{Read, done, deep, broken}
 use Rattle.score_tree.specs.LoadTable.{Table, figure_of}
 use Rattle.score_tree.specs.Inner.Spreads.{Spread, spread}
-use Rattle.score_tree.specs.Inner.Answering.{spread_in, Answers, Ground, ground_of, whole_spread, ends_on, plan_ends}
+use Rattle.score_tree.specs.Inner.Answering.{answered, Ground, ground_of, whole_spread, ends_on, plan_ends}
 use Rattle.score_tree.proofs.Fixed.{measured}
 use Rattle.score_tree.proofs.Answering.{by_ground}
 use Rattle.score_loose.specs.Plans.{Loose, read_loose}
@@ -23,7 +27,7 @@ use Rattle.score_loose.proofs.Spreads.{loose_spread, loose_reads}
 abbrev ends_is : Spread → Result Ends
 ends_is e = value (ends e.least e.greatest)
 
-scored_both : (l : Language) (w : Table) (k : ℕ) (b : List ℕ) → (whole_plan (read_loose l 64 k b) >>= λ t. ends_of w t) ≡ (ends_on 4 l w k b >>= ends_is)
+scored_both : (l : Language) (w : Table) (k : ℕ) (b : List ℕ) → (whole_plan (read_loose l 64 k b) >>= λ t. ends_of w t) ≡ (ends_on Kinds.Loose l w k b >>= ends_is)
 unfolding ends_on ends_of
 scored_both l w k b = go (read_loose l 64 k b) ∙ ap (λ (o : Read Spread). whole_spread o >>= ends_is) (sym (loose_reads l (figure_of w) 64 k b))
   where
@@ -38,33 +42,27 @@ scored_both l w k b = go (read_loose l 64 k b) ∙ ap (λ (o : Read Spread). who
     go broken = refl
 
 module _ (s : List ℕ) (root : ℕ) (b t : List ℕ) where
-  chain : loose_bytes s root b t ≡ (plan_ends 4 s root b t >>= ends_is)
+  chain : loose_bytes s root b t ≡ (plan_ends Kinds.Loose s root b t >>= ends_is)
   unfolding loose_bytes loose_of plan_ends
   chain = by_ground s root t (λ l. whole_plan (read_loose l 64 root b)) (λ w u. ends_of w u) ∙ go (ground_of s root t)
     where
       go : (m : Result Ground) → (m >>= λ g. whole_plan (read_loose g.language 64 root b) >>= λ u. ends_of g.table u)
-          ≡ ((m >>= λ g. ends_on 4 g.language g.table root b) >>= ends_is)
+          ≡ ((m >>= λ g. ends_on Kinds.Loose g.language g.table root b) >>= ends_is)
       go (value g) = scored_both g.language g.table root b
       go (refused r) = refl
 
-  pub ends_are : {o : Outcome} {x y : ℤ} → Answers (plan_ends 4 s root b t) o x y
-      → (o ≡ (score_loose s root b t).outcome) × (x ≡ (score_loose s root b t).least) × (y ≡ (score_loose s root b t).greatest)
+  -- What the operation answers, by the ends of the walk.
+  abbrev Scores : Std.Result Both Reason → Type 0
+  Scores (Ok e) =
+      (Ok 0 ≡ (score_loose s root b t).outcome) × (e.least ≡ (score_loose s root b t).least) × (e.greatest ≡ (score_loose s root b t).greatest)
+  Scores (Err r) = (Err r ≡ (score_loose s root b t).outcome) × (pos 0 ≡ (score_loose s root b t).least) × (pos 0 ≡ (score_loose s root b t).greatest)
+
+  pub score_is : {r : Std.Result Both Reason} → r ≡ answered (plan_ends Kinds.Loose s root b t) → Scores r
   unfolding score_loose
-  ends_are a =
-      let e : (plan_ends 4 s root b t >>= ends_is) ≡ loose_bytes s root b t = sym chain in (
-        a.answer ∙ (kept (plan_ends 4 s root b t) ∙ ap checked e),
-        a.low ∙ (below (plan_ends 4 s root b t) ∙ ap (λ (m : Result Ends). (ends_in m).least) e),
-        a.high ∙ (above (plan_ends 4 s root b t) ∙ ap (λ (m : Result Ends). (ends_in m).greatest) e),
-      )
+  score_is e = rw e (go (plan_ends Kinds.Loose s root b t) chain)
     where
-      kept : (m : Result Spread) → checked m ≡ checked (m >>= ends_is)
-      kept (value e) = refl
-      kept (refused r) = refl
-
-      below : (m : Result Spread) → (spread_in m).least ≡ (ends_in (m >>= ends_is)).least
-      below (value e) = refl
-      below (refused r) = refl
-
-      above : (m : Result Spread) → (spread_in m).greatest ≡ (ends_in (m >>= ends_is)).greatest
-      above (value e) = refl
-      above (refused r) = refl
+      go : (m : Result Spread) → loose_bytes s root b t ≡ (m >>= ends_is) → Scores (answered m)
+      go (value x) q =
+          (ap checked (sym q), ap (λ (m : Result Ends). (ends_in m).least) (sym q), ap (λ (m : Result Ends). (ends_in m).greatest) (sym q))
+      go (refused x) q =
+          (ap checked (sym q), ap (λ (m : Result Ends). (ends_in m).least) (sym q), ap (λ (m : Result Ends). (ends_in m).greatest) (sym q))

@@ -12,7 +12,8 @@ use Rattle.score_tree.specs.Figures.{is_score}
 use Rattle.score_tree.specs.Linear.{Loads}
 use Rattle.score_tree.specs.Inner.Sums.{turned}
 use Rattle.score_tree.specs.Inner.Spreads as Walk
-use Rattle.score_tree.specs.Inner.Spreads.{Spread, spread, row_sum, row_within, node_spread, read_loosely, pair_spread, read_values, read_row, read_spread}
+use Rattle.score_tree.specs.Inner.Spreads.{Spread, spread, row_sum, row_within, node_spread, read_loosely, pair_spread, read_row, read_spread}
+use Rattle.score_tree.specs.declared.walk.Tokens.TheVariants as Kinds
 use Rattle.score_tree.proofs.Fixed.{measured}
 use Rattle.score_loose.specs.Plans.{Loose, node, token, Looses, nil, cons, is_loose, loose_token, read_pair, read_looses, read_operands, read_name, by_class, read_loose}
 use Rattle.score_loose.specs.Ends.{End, low, high, other_end, end_by, end, end_all, both_within, all_within}
@@ -103,15 +104,15 @@ module _ (w : Loads) where
     name_is l k (p ∷ s) = operands_are k p (arguments_of l k p) s
 
   class_is : (o : Option Range) (s : List ℕ) (named : Read Spread) (plan : Read Loose) → named ≡ measured (loose_spread w) plan
-      → Walk.by_class 4 o s named ≡ measured (loose_spread w) (by_class o s plan)
-  unfolding Walk.by_class by_class read_values
+      → Walk.by_class Kinds.Loose o s named ≡ measured (loose_spread w) (by_class o s plan)
+  unfolding Walk.by_class by_class
   class_is (some c) s named plan e = token_is c s
   class_is none s named plan e = e
 
 -- What the walk reads in tokens of four bytes.
-pub loose_reads : (l : Language) (w : Loads) (n k : ℕ) (s : List ℕ) → read_spread 4 l w n k s ≡ measured (loose_spread w) (read_loose l n k s)
+pub loose_reads : (l : Language) (w : Loads) (n k : ℕ) (s : List ℕ) → read_spread Kinds.Loose l w n k s ≡ measured (loose_spread w) (read_loose l n k s)
 unfolding read_spread read_loose
 loose_reads l w zero k s = class_is w (range_of l k) s deep deep refl
 loose_reads l w (suc n) k s =
-    class_is w (range_of l k) s (Walk.read_name (read_spread 4 l w n) l w k s) (read_name (read_loose l n) l k s)
-    (name_is w (read_spread 4 l w n) (read_loose l n) (λ j r. loose_reads l w n j r) l k s)
+    class_is w (range_of l k) s (Walk.read_name (read_spread Kinds.Loose l w n) l w k s) (read_name (read_loose l n) l k s)
+    (name_is w (read_spread Kinds.Loose l w n) (read_loose l n) (λ j r. loose_reads l w n j r) l k s)

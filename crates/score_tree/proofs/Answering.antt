@@ -1,5 +1,8 @@
 -- The operation score by its chain of tests: a law for each return of `prepare`, `score_kind` and `score`.
-use Prim.Native.Nat.{ℕ, ◌+◌, ◌-◌, ◌<◌, ◌≤◌}
+use Rattle.std.specs.Prelude as Std
+use Rattle.std.specs.Option.{ok_or}
+use Rattle.std.specs.Prelude.{Ok, Err, None, Some, ⊤}
+use Prim.Native.Nat.{ℕ, ◌+◌, ◌<◌, ◌≤◌}
 use mathlib.Core.Path.{◌≡◌, refl, sym, ap, ◌∙◌}
 use mathlib.Core.Bool.{Bool, true, false, not}
 use mathlib.Core.Logic.{◌⊎◌, ⊎_elim}
@@ -10,15 +13,13 @@ use lib.ListN.{length, get_or, drop, drop_of_length-le, replicate}
 use lib.Dec.{eqb, ltb}
 use lib.IntN.{ℤ, pos}
 use borrow.Author.Tests.{eq-eqb, eqb-true}
-use Rattle.format_fields.specs.Lists.{any, is_some}
+use Rattle.format_fields.specs.Lists.{any}
 use Rattle.format_fields.specs.Fields.{pair_at, fields_of}
-use Rattle.outcome.specs.Outcome.{Result, value, refused, refuse_if, ◌>>=◌, checked}
-use Rattle.outcome.specs.declared.Outcome.{Outcome}
-use Rattle.outcome.specs.declared.Outcome.TheVariants.{Accepted, Refused}
+use Rattle.outcome.specs.Outcome.{Result, value, refused, refuse_if, ◌>>=◌, checked, Outcome}
 use Rattle.outcome.specs.declared.Reason.{Reason}
 use Rattle.outcome.specs.declared.Reason.TheVariants as Why
 use Rattle.format_fields.specs.Inner.Places.{places, key_at, slot_at}
-use Rattle.format_fields.proofs.Truth.{by_test, false_true, all_mem, mem_all, any_mem, mem_any, some_is, Mem}
+use Rattle.format_fields.proofs.Truth.{by_test, all_mem, mem_all, any_mem, mem_any, Mem}
 use Rattle.format_fields.proofs.Split.{front}
 use Rattle.format_language.specs.Language.{Language, arguments_of, production_key, is_in}
 use Rattle.format_language.specs.LanguageFile.{entries_of, language_of}
@@ -37,26 +38,27 @@ use Rattle.tree_reader.proofs.Indexed.{build_is, production_key_lem}
 use Rattle.tree_reader.proofs.Larger.{apart}
 use Rattle.tree_reader.proofs.Placed.{puts_place, found}
 use Rattle.tree_reader.proofs.Members.{in_below}
-use Rattle.format_translation.proofs.Accepted.{refused_not}
 use Rattle.check_operations.proofs.Opening.{Accepts}
-use Rattle.score_tree.specs.LoadTable.{Table, loads_of, table_of, figure_of}
+use Rattle.score_tree.specs.LoadTable.{Table, loads_of, whole_table, table_of, figure_of}
 use Rattle.score_tree.specs.Figures.{is_score}
 use Rattle.score_tree.specs.Linear.{form, passes}
 use Rattle.score_tree.specs.Operations.{score_of, score_bytes, score_in, score_tree}
 use Rattle.score_tree.specs.Inner.Kept.{Small, Kept}
 use Rattle.score_tree.specs.Inner.Terms.{World}
 use Rattle.score_tree.specs.Inner.Spreads.{Spread, spread, read_spread}
-use Rattle.score_tree.specs.Inner.Answering.{spread_in, Answers, Held, Ground, ground, ground_of, Prepared, whole_spread, ends_on, plan_ends}
+use Rattle.score_tree.specs.Inner.Results.{settled}
+use Rattle.score_tree.specs.Inner.Answering.{answered, Held, Ground, ground, ground_of, Prepared, whole_spread, ends_on, plan_ends}
 use Rattle.score_tree.specs.Inner.Walks.{Says}
+use Rattle.tree_reader.specs.Inner.Positions.{refusal_of}
 use Rattle.score_tree.specs.declared.walk.Bounds.{Bounds}
-use Rattle.score_tree.specs.declared.walk.Bounds.TheVariants.{Between, Outside, Deep, Broken}
+use Rattle.tree_reader.specs.declared.node.ReadError.{ReadError}
+use Rattle.tree_reader.specs.declared.node.ReadError.TheVariants.{Deep, Broken}
+use Rattle.score_tree.specs.declared.walk.Tokens.{Tokens}
+use Rattle.score_tree.specs.declared.walk.Tokens.TheVariants.{Fixed}
+use Rattle.score_tree.specs.declared.figures.Ends.{Ends}
 use Rattle.score_tree.proofs.Terms.{placed}
 use Rattle.score_tree.proofs.Plans.{says_between, says_outside, says_deep, says_broken}
 use Rattle.score_tree.proofs.Fixed.{measured, fixed_spread, fixed_reads}
-
--- An answer is that of any result that is the same.
-answers_same : {a b : Result Spread} {o : Outcome} {x y : ℤ} → a ≡ b → Answers a o x y → Answers b o x y
-answers_same e h = rw (← e) h
 
 -- The index that was built, and the figures that were kept, are those of the language and its table.
 module _ (s : List ℕ) (fig : List ℤ) (l : Language) (w : Table) (bytes : (i : ℕ) → get_or s i 0 < 256) (held : Held s fig l w)
@@ -124,58 +126,51 @@ module _ (s : List ℕ) (fig : List ℤ) (l : Language) (w : Table) (bytes : (i 
   }
 
 -- score_kind
-module _ (width : ℕ) (l : Language) (w : Table) (k : ℕ) (b : List ℕ) where
-  whole : (t : Spread) (e : ℕ) → read_spread width l (figure_of w) 64 k b ≡ done t (drop e b) → e ≡ length b → whole_spread (done t []) ≡ ends_on width l w k b
+module _ (m : Tokens) (l : Language) (w : Table) (k : ℕ) (b : List ℕ) where
+  whole : (t : Spread) (e : ℕ) → read_spread m l (figure_of w) 64 k b ≡ done t (drop e b) → e ≡ length b → whole_spread (done t []) ≡ ends_on m l w k b
   unfolding ends_on
   whole t e d n =
-      let f : read_spread width l (figure_of w) 64 k b ≡ done t [] = d ∙ ap (done t) (drop_of_length-le b {i = e} (omega arith)) in
+      let f : read_spread m l (figure_of w) 64 k b ≡ done t [] = d ∙ ap (done t) (drop_of_length-le b {i = e} (omega arith)) in
       rw f refl
 
-module _ (width : ℕ) (l : Language) (w : Table) (k : ℕ) (b : List ℕ) (r : Bounds) (er : Says b (read_spread width l (figure_of w) 64 k b) r) {o : Outcome} {x y : ℤ} where
-  pub kind_deep : r ≡ Deep → Answers (refused Why.TooDeep) o x y → Answers (ends_on width l w k b) o x y
+  more : (t : Spread) (e : ℕ) → read_spread m l (figure_of w) 64 k b ≡ done t (drop e b) → e ≤ length b → (e ≡ length b → ⊥) → refused Why.IllegalTree ≡ ends_on m l w k b
   unfolding ends_on
-  kind_deep e a = let d = says_deep b (read_spread width l (figure_of w) 64 k b) r er e in answers_same (rw d refl) a
+  more t e d n h =
+      let i : e < length b = omega (arith, n, h) in
+      let f : read_spread m l (figure_of w) 64 k b ≡ done t (get_or b e 0 ∷ drop (e + 1) b) = d ∙ ap (done t) (front b e i) in
+      rw f refl
 
-  pub kind_broken : r ≡ Broken → Answers (refused Why.IllegalTree) o x y → Answers (ends_on width l w k b) o x y
+module _ (m : Tokens) (l : Language) (w : Table) (k : ℕ) (b : List ℕ) (r : Std.Result Bounds ReadError) (er : Says b (read_spread m l (figure_of w) 64 k b) r) where
+  pub kind_refused : (x : ReadError) → r ≡ Err x → Err (refusal_of x) ≡ answered (ends_on m l w k b)
   unfolding ends_on
-  kind_broken e a = let d = says_broken b (read_spread width l (figure_of w) 64 k b) r er e in answers_same (rw d refl) a
+  kind_refused Deep e = let d = says_deep b (read_spread m l (figure_of w) 64 k b) r er e in rw d refl
+  kind_refused Broken e = let d = says_broken b (read_spread m l (figure_of w) 64 k b) r er e in rw d refl
 
-  more : (t : Spread) (e : ℕ) → read_spread width l (figure_of w) 64 k b ≡ done t (drop e b) → e ≤ length b → (e ≡ length b → ⊥) → Answers (refused Why.IllegalTree) o x y → Answers (ends_on width l w k b) o x y
-  unfolding ends_on
-  more t e d n m a =
-      let i : e < length b = omega (arith, n, m) in
-      let f : read_spread width l (figure_of w) 64 k b ≡ done t (get_or b e 0 ∷ drop (e + 1) b) = d ∙ ap (done t) (front b e i) in
-      answers_same (rw f refl) a
+  module _ (x : Bounds) (ex : r ≡ Ok x) where
+    pub kind_more : (x.end ≡ length b → ⊥) → Err Why.IllegalTree ≡ answered (ends_on m l w k b)
+    kind_more h = go x.ends refl
+      where
+        go : (o : Std.Option Ends) → x.ends ≡ o → Err Why.IllegalTree ≡ answered (ends_on m l w k b)
+        go None q = let g = says_outside b (read_spread m l (figure_of w) 64 k b) r er x ex q in ap answered (more m l w k b g.plan x.end g.is g.inside h)
+        go (Some e) q = let (g, f) = says_between b (read_spread m l (figure_of w) 64 k b) r er x ex e q in ap answered (more m l w k b g.plan x.end g.is g.inside h)
 
-  module _ (u v : ℤ) (e : ℕ) (q : r ≡ Between u v e) where
-    pub kind_more : (e ≡ length b → ⊥) → Answers (refused Why.IllegalTree) o x y → Answers (ends_on width l w k b) o x y
-    kind_more m a = let (g, f, h) = says_between b (read_spread width l (figure_of w) 64 k b) r er u v e q in more g.plan e g.is g.inside m a
-
-    -- u' and v' are what the machine reads of the ends
-    pub kind_ends : e ≡ length b → (u' v' : ℤ) → u' ≡ u → v' ≡ v → Answers (value (spread u' v' true)) o x y → Answers (ends_on width l w k b) o x y
-    kind_ends n u' v' eu ev a =
-        let (g, f, h) = says_between b (read_spread width l (figure_of w) 64 k b) r er u v e q in
-        let same : spread u' v' true ≡ g.plan = λ i. spread ((eu ∙ sym f) i) ((ev ∙ sym h) i) (sym g.fits i) in
-        let given : whole_spread (done g.plan []) ≡ value g.plan = rw g.fits refl in
-        answers_same (ap value same ∙ (sym given ∙ whole width l w k b g.plan e g.is n)) a
-
-  module _ (e : ℕ) (q : r ≡ Outside e) where
-    pub kind_out_more : (e ≡ length b → ⊥) → Answers (refused Why.IllegalTree) o x y → Answers (ends_on width l w k b) o x y
-    kind_out_more m a = let g = says_outside b (read_spread width l (figure_of w) 64 k b) r er e q in more g.plan e g.is g.inside m a
-
-    pub kind_out : e ≡ length b → Answers (refused Why.ScoreOutOfRange) o x y → Answers (ends_on width l w k b) o x y
-    kind_out n a =
-        let g = says_outside b (read_spread width l (figure_of w) 64 k b) r er e q in
-        let given : whole_spread (done g.plan []) ≡ refused Why.ScoreOutOfRange = rw g.fits refl in
-        answers_same (sym given ∙ whole width l w k b g.plan e g.is n) a
+    pub kind_whole : x.end ≡ length b → ok_or x.ends Why.ScoreOutOfRange ≡ answered (ends_on m l w k b)
+    kind_whole n = go x.ends refl
+      where
+        go : (o : Std.Option Ends) → x.ends ≡ o → ok_or o Why.ScoreOutOfRange ≡ answered (ends_on m l w k b)
+        go None q =
+            let g = says_outside b (read_spread m l (figure_of w) 64 k b) r er x ex q in
+            let given : refused Why.ScoreOutOfRange ≡ whole_spread (done g.plan []) = rw g.fits refl in
+            ap answered (given ∙ whole m l w k b g.plan x.end g.is n)
+        go (Some e) q =
+            let (g, f) = says_between b (read_spread m l (figure_of w) 64 k b) r er x ex e q in
+            let given : value g.plan ≡ whole_spread (done g.plan []) = rw g.fits refl in
+            ap Ok f ∙ ap answered (given ∙ whole m l w k b g.plan x.end g.is n)
 
 -- prepare
-pub refused_is : {A : Type 0} (m : Result A) {r : Reason} → checked m ≡ Refused r → m ≡ refused r
-refused_is (value a) {r} e = refused_not {n = 0} {r = r} (sym e)
-refused_is (refused q) e = ap refused (inj e)
-  where
-    inj : {p q : Reason} → Refused p ≡ Refused q → p ≡ q
-    inj e = cc
+pub refused_is : {A : Type 0} (m : Result A) {r : Reason} → checked m ≡ Err r → m ≡ refused r
+refused_is (value a) e = cc
+refused_is (refused q) {r} e = let i : q ≡ r = cc in ap refused i
 
 pub zeros_small : (n : ℕ) → Small (replicate n (pos 0))
 unfolding Small
@@ -183,12 +178,21 @@ zeros_small n i = by_test (ltb i n)
     (λ h. rw (lib.ListN.get_or-replicate n i (pos 0) (pos 0) (borrow.Author.Tests.ltb-true i n h)) (omega arith))
     (λ h. rw (lib.ListN.get_or-eq_default (replicate n (pos 0)) (pos 0) {n = i} (rw lib.ListN.length-replicate (borrow.Author.Tests.ltb-false i n h))) (omega arith))
 
+-- The loads of a table that was read.
+pub table_there : (l : Language) (t : List ℕ) {u : ⊤} → settled (table_of l t) ≡ Ok u → (w : Table) × (loads_of l (fields_of t) ≡ some w)
+unfolding table_of
+table_there l t {u} h = go (loads_of l (fields_of t)) refl h
+  where
+    go : (m : Option Table) → loads_of l (fields_of t) ≡ m → settled (whole_table m) ≡ Ok u → (w : Table) × (loads_of l (fields_of t) ≡ some w)
+    go none e f = cc
+    go (some w) e f = (w, e)
+
 module _ (s : List ℕ) (root : ℕ) (t : List ℕ) where
   -- Nothing is owed of a value where it is refused.
-  pub none_held : {fig : List ℤ} {r : Reason} → Refused r ≡ checked (ground_of s root t) → (g : Ground) → ground_of s root t ≡ value g → Prepared s fig root g
-  none_held {fig} {r} e g h = refused_not {n = 0} {r = r} (e ∙ ap checked h)
+  pub none_held : {fig : List ℤ} {r : Reason} → Err r ≡ settled (ground_of s root t) → (g : Ground) → ground_of s root t ≡ value g → Prepared s fig root g
+  none_held {fig} {r} e g h = let z : Err r ≡ settled (value g) = e ∙ ap settled h in cc
 
-  pub language_refused : {p : Outcome} {r : Reason} → p ≡ check_language s → p ≡ Refused r → Refused r ≡ checked (ground_of s root t)
+  pub language_refused : {p : Outcome} {r : Reason} → p ≡ check_language s → p ≡ Err r → Err r ≡ settled (ground_of s root t)
   unfolding check_language ground_of
   language_refused e h = let d = refused_is (language_of s) (sym e ∙ h) in rw d refl
 
@@ -201,33 +205,33 @@ module _ (s : List ℕ) (root : ℕ) (t : List ℕ) where
         let h = holds_entries s a.language a.entries in
         record { whole = h.whole; rises = rising_is s a.language h ∙ good.rises }
 
-    module _ {x : Bool} (ex : x ≡ is_some (loads_of a.language (fields_of t))) where
-      pub table_broken : x ≡ false → Refused Why.BrokenTable ≡ checked (ground_of s root t)
-      unfolding ground_of table_of
-      table_broken h = rw a.is (go (loads_of a.language (fields_of t)) refl (sym ex ∙ h))
+    module _ {x : Std.Result ⊤ Reason} (ex : x ≡ settled (table_of a.language t)) where
+      pub table_refused : {r : Reason} → x ≡ Err r → Err r ≡ settled (ground_of s root t)
+      unfolding ground_of
+      table_refused {r} h = rw a.is (go (table_of a.language t) refl (sym ex ∙ h))
         where
-          go : (m : Option Table) → loads_of a.language (fields_of t) ≡ m → is_some m ≡ false
-              → Refused Why.BrokenTable ≡ checked (table_of a.language t >>= λ w. refuse_if (not (is_in a.language root)) Why.UnknownRoot (value (ground a.language w)))
-          go none e f = rw e refl
-          go (some w) e f = false_true (sym f)
+          go : (m : Result Table) → table_of a.language t ≡ m → settled m ≡ Err r
+              → Err r ≡ settled (table_of a.language t >>= λ w. refuse_if (not (is_in a.language root)) Why.UnknownRoot (value (ground a.language w)))
+          go (value w) e f = cc
+          go (refused q) e f = rw e (sym f)
 
-      module _ (h : x ≡ true) where
+      module _ {u : ⊤} (h : x ≡ Ok u) where
         there : (w : Table) × (loads_of a.language (fields_of t) ≡ some w)
-        there = some_is (loads_of a.language (fields_of t)) (sym ex ∙ h)
+        there = table_there a.language t (sym ex ∙ h)
 
         on_table : ground_of s root t ≡ refuse_if (not (is_in a.language root)) Why.UnknownRoot (value (ground a.language there.0))
         unfolding ground_of table_of
         on_table = rw (a.is, there.1) refl
 
         module _ {y : Bool} (ey : y ≡ is_in a.language root) where
-          pub root_out : y ≡ false → Refused Why.UnknownRoot ≡ checked (ground_of s root t)
+          pub root_out : y ≡ false → Err Why.UnknownRoot ≡ settled (ground_of s root t)
           root_out j = rw (on_table, sym ey ∙ j) refl
 
           module _ (j : y ≡ true) where
             ground_is : ground_of s root t ≡ value (ground a.language there.0)
             ground_is = rw (on_table, sym ey ∙ j) refl
 
-            pub ground_accepted : Accepted 0 ≡ checked (ground_of s root t)
+            pub ground_accepted : Ok tt ≡ settled (ground_of s root t)
             ground_accepted = rw ground_is refl
 
             pub ground_held : (fig : List ℤ) → ((l : Language) (w : Table) → entries_of s ≡ some l → loads_of l (fields_of t) ≡ some w → Kept fig s w)
@@ -265,25 +269,29 @@ module _ {A B : Type 0} (s : List ℕ) (root : ℕ) (t : List ℕ) (tree : Langu
       go (refused r) = refl
 
 -- What was prepared, by its outcome.
-pub ground_there : (s : List ℕ) (root : ℕ) (t : List ℕ) {p : Outcome} {n : ℕ} → p ≡ checked (ground_of s root t) → p ≡ Accepted n → (g : Ground) × (ground_of s root t ≡ value g)
+pub ground_there : (s : List ℕ) (root : ℕ) (t : List ℕ) {p : Std.Result ⊤ Reason} {u : ⊤} → p ≡ settled (ground_of s root t) → p ≡ Ok u → (g : Ground) × (ground_of s root t ≡ value g)
 ground_there s root t e h = go (ground_of s root t) (sym e ∙ h)
   where
-    go : {n : ℕ} (m : Result Ground) → checked m ≡ Accepted n → (g : Ground) × (m ≡ value g)
+    go : {u : ⊤} (m : Result Ground) → settled m ≡ Ok u → (g : Ground) × (m ≡ value g)
     go (value g) q = (g, refl)
-    go {n} (refused r) q = refused_not {n = n} {r = r} q
+    go (refused r) q = cc
 
 -- score_plan
-module _ (width : ℕ) (s : List ℕ) (root : ℕ) (b t : List ℕ) {o : Outcome} {x y : ℤ} where
-  pub ground_refused : {p : Outcome} {r : Reason} → p ≡ checked (ground_of s root t) → p ≡ Refused r → Answers (refused r) o x y → Answers (plan_ends width s root b t) o x y
+module _ (m : Tokens) (s : List ℕ) (root : ℕ) (b t : List ℕ) where
+  pub ground_refused : {p : Std.Result ⊤ Reason} {r : Reason} → p ≡ settled (ground_of s root t) → p ≡ Err r → Err r ≡ answered (plan_ends m s root b t)
   unfolding plan_ends
-  ground_refused e h a = let d = refused_is (ground_of s root t) (sym e ∙ h) in answers_same (rw d refl) a
+  ground_refused e h = go (ground_of s root t) (sym e ∙ h)
+    where
+      go : {r : Reason} (n : Result Ground) → settled n ≡ Err r → Err r ≡ answered (n >>= λ g. ends_on m g.language g.table root b)
+      go (value g) q = cc
+      go {r} (refused x) q = let e : r ≡ x = cc in ap Err e
 
-  pub ground_scored : (g : Ground) → ground_of s root t ≡ value g → Answers (ends_on width g.language g.table root b) o x y → Answers (plan_ends width s root b t) o x y
+  pub ground_scored : (g : Ground) → ground_of s root t ≡ value g → answered (ends_on m g.language g.table root b) ≡ answered (plan_ends m s root b t)
   unfolding plan_ends
-  ground_scored g e a = answers_same (rw e refl) a
+  ground_scored g e = rw e refl
 
 -- score
-scored_one : (l : Language) (w : Table) (k : ℕ) (b : List ℕ) → (whole_tree (Meant.read Meant.tree l [] 64 k b) >>= λ u. score_of w u) ≡ (ends_on 2 l w k b >>= λ e. value e.least)
+scored_one : (l : Language) (w : Table) (k : ℕ) (b : List ℕ) → (whole_tree (Meant.read Meant.tree l [] 64 k b) >>= λ u. score_of w u) ≡ (ends_on Fixed l w k b >>= λ e. value e.least)
 unfolding ends_on score_of
 scored_one l w k b = go (Meant.read Meant.tree l [] 64 k b) ∙ ap (λ (o : Read Spread). whole_spread o >>= λ e. value e.least) (sym (fixed_reads l (figure_of w) 64 k b))
   where
@@ -298,25 +306,24 @@ scored_one l w k b = go (Meant.read Meant.tree l [] 64 k b) ∙ ap (λ (o : Read
     go broken = refl
 
 module _ (s : List ℕ) (root : ℕ) (b t : List ℕ) where
-  score_chain : score_bytes s root b t ≡ (plan_ends 2 s root b t >>= λ e. value e.least)
+  score_chain : score_bytes s root b t ≡ (plan_ends Fixed s root b t >>= λ e. value e.least)
   unfolding score_bytes tree_of plan_ends
   score_chain = by_ground s root t (λ l. whole_tree (Meant.read Meant.tree l [] 64 root b)) (λ w u. score_of w u) ∙ go (ground_of s root t)
     where
       go : (m : Result Ground) → (m >>= λ g. whole_tree (Meant.read Meant.tree g.language [] 64 root b) >>= λ u. score_of g.table u)
-          ≡ ((m >>= λ g. ends_on 2 g.language g.table root b) >>= λ e. value e.least)
+          ≡ ((m >>= λ g. ends_on Fixed g.language g.table root b) >>= λ e. value e.least)
       go (value g) = scored_one g.language g.table root b
       go (refused r) = refl
 
-  pub score_is : {o : Outcome} {x y : ℤ} → Answers (plan_ends 2 s root b t) o x y → (z : ℤ) → z ≡ x → (o ≡ (score_tree s root b t).outcome) × (z ≡ (score_tree s root b t).score)
-  unfolding score_tree
-  score_is a z ez =
-      let e = score_chain in
-      (a.answer ∙ (kept (plan_ends 2 s root b t) ∙ ap checked (sym e)), ez ∙ (a.low ∙ (given (plan_ends 2 s root b t) ∙ ap score_in (sym e))))
-    where
-      kept : (m : Result Spread) → checked m ≡ checked (m >>= λ e. value e.least)
-      kept (value e) = refl
-      kept (refused r) = refl
+  -- What the operation answers, by the ends of the plan that the tree is.
+  abbrev Scores : Std.Result Ends Reason → Type 0
+  Scores (Ok e) = (Ok 0 ≡ (score_tree s root b t).outcome) × (e.least ≡ (score_tree s root b t).score)
+  Scores (Err r) = (Err r ≡ (score_tree s root b t).outcome) × (pos 0 ≡ (score_tree s root b t).score)
 
-      given : (m : Result Spread) → (spread_in m).least ≡ score_in (m >>= λ e. value e.least)
-      given (value e) = refl
-      given (refused r) = refl
+  pub score_is : {r : Std.Result Ends Reason} → r ≡ answered (plan_ends Fixed s root b t) → Scores r
+  unfolding score_tree
+  score_is e = rw e (go (plan_ends Fixed s root b t) score_chain)
+    where
+      go : (m : Result Spread) → score_bytes s root b t ≡ (m >>= λ x. value x.least) → Scores (answered m)
+      go (value x) q = (ap checked (sym q), ap score_in (sym q))
+      go (refused x) q = (ap checked (sym q), ap score_in (sym q))

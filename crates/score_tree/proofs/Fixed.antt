@@ -15,6 +15,7 @@ use Rattle.score_tree.specs.Figures.{is_score}
 use Rattle.score_tree.specs.Linear.{Loads, constant, form, form_all, passes, passes_all}
 use Rattle.score_tree.specs.Inner.Sums.{turned}
 use Rattle.score_tree.specs.Inner.Spreads.{Spread, spread, row_sum, row_within, node_spread, read_fixed, read_values, read_row, read_operands, read_name, read_spread}
+use Rattle.score_tree.specs.declared.walk.Tokens.TheVariants.{Fixed}
 use Rattle.score_tree.proofs.Plans.{class_read, past_read, name_read}
 
 -- What was read, measured.
@@ -111,25 +112,24 @@ module _ (w : Loads) where
     name_is l k (p ∷ s) = operands_are k p (arguments_of l k p) s
 
 module _ (l : Language) (w : Loads) where
-  values_are : (c : Range) (s : List ℕ) → read_values 2 c s ≡ measured (fixed_spread w) (read_token (some c) s)
-  unfolding read_values
+  values_are : (c : Range) (s : List ℕ) → read_values Fixed c s ≡ measured (fixed_spread w) (read_token (some c) s)
   values_are c s = token_is w c s
 
-  class_is : (n k : ℕ) (s : List ℕ) (c : Range) → range_of l k ≡ some c → read_spread 2 l w n k s ≡ measured (fixed_spread w) (read tree l [] n k s)
-  class_is n k s c e = class_read 2 l w k n s c e ∙ (values_are c s ∙ sym (ap (measured (fixed_spread w)) (read_class l k s n c e)))
+  class_is : (n k : ℕ) (s : List ℕ) (c : Range) → range_of l k ≡ some c → read_spread Fixed l w n k s ≡ measured (fixed_spread w) (read tree l [] n k s)
+  class_is n k s c e = class_read Fixed l w k n s c e ∙ (values_are c s ∙ sym (ap (measured (fixed_spread w)) (read_class l k s n c e)))
 
-  past_is : (k : ℕ) (s : List ℕ) (o : Option Range) → range_of l k ≡ o → read_spread 2 l w 0 k s ≡ measured (fixed_spread w) (read tree l [] 0 k s)
+  past_is : (k : ℕ) (s : List ℕ) (o : Option Range) → range_of l k ≡ o → read_spread Fixed l w 0 k s ≡ measured (fixed_spread w) (read tree l [] 0 k s)
   past_is k s (some c) e = class_is 0 k s c e
-  past_is k s none e = past_read 2 l w k s e ∙ sym (ap (measured (fixed_spread w)) (read_past l k s e))
+  past_is k s none e = past_read Fixed l w k s e ∙ sym (ap (measured (fixed_spread w)) (read_past l k s e))
 
-  level_is : (n : ℕ) → ((k : ℕ) (s : List ℕ) → read_spread 2 l w n k s ≡ measured (fixed_spread w) (read tree l [] n k s))
-      → (k : ℕ) (s : List ℕ) (o : Option Range) → range_of l k ≡ o → read_spread 2 l w (suc n) k s ≡ measured (fixed_spread w) (read tree l [] (suc n) k s)
+  level_is : (n : ℕ) → ((k : ℕ) (s : List ℕ) → read_spread Fixed l w n k s ≡ measured (fixed_spread w) (read tree l [] n k s))
+      → (k : ℕ) (s : List ℕ) (o : Option Range) → range_of l k ≡ o → read_spread Fixed l w (suc n) k s ≡ measured (fixed_spread w) (read tree l [] (suc n) k s)
   level_is n h k s (some c) e = class_is (suc n) k s c e
   level_is n h k s none e =
-      name_read 2 l w k n s e
-      ∙ (name_is w (read_spread 2 l w n) (read tree l [] n) h l k s ∙ sym (ap (measured (fixed_spread w)) (read_node_lem l k s n e)))
+      name_read Fixed l w k n s e
+      ∙ (name_is w (read_spread Fixed l w n) (read tree l [] n) h l k s ∙ sym (ap (measured (fixed_spread w)) (read_node_lem l k s n e)))
 
   -- What the walk reads in tokens of two bytes.
-  pub fixed_reads : (n k : ℕ) (s : List ℕ) → read_spread 2 l w n k s ≡ measured (fixed_spread w) (read tree l [] n k s)
+  pub fixed_reads : (n k : ℕ) (s : List ℕ) → read_spread Fixed l w n k s ≡ measured (fixed_spread w) (read tree l [] n k s)
   fixed_reads zero k s = past_is k s (range_of l k) refl
   fixed_reads (suc n) k s = level_is n (λ j r. fixed_reads n j r) k s (range_of l k) refl

@@ -1,7 +1,7 @@
 -- Products that are added to the places of a sum: a law for each turn and each return of `add_leaf` and `add_row`.
 use Prim.Native.Nat.{ℕ, zero, suc, ◌+◌, ◌<◌, ◌≤◌}
 use mathlib.Core.Path.{◌≡◌, refl, sym, ap, ◌∙◌}
-use mathlib.Core.Bool.{true, false}
+use mathlib.Core.Bool.{true}
 use mathlib.Core.List.{List}
 use native.Mathlib.Omega.{arith}
 use lib.ListN.{length, get_or, set, length-set}
@@ -12,10 +12,10 @@ use mir.Syntax.{w64}
 use mir.Val.{to_z, of_z}
 use borrow.Author.Tests.{eq-eqb, ne_eqb, eqb-true, eqb-false}
 use Rattle.format_fields.specs.Fields.{pair_at}
-use Rattle.format_fields.proofs.Truth.{by_test, false_true}
+use Rattle.format_fields.proofs.Truth.{by_test}
 use Rattle.score_tree.specs.Figures.{is_figure}
 use Rattle.score_tree.specs.Linear.{constant, used}
-use Rattle.score_tree.specs.Inner.Terms.{leaf_form, LeafIn, Asked, Added, AddsLeaf, AddsRow}
+use Rattle.score_tree.specs.Inner.Terms.{leaf_form, LeafIn, Asked, Added, AddsLeaf}
 use Rattle.score_tree.proofs.Integers.{back, between_near}
 
 -- A place of a sum, as the machine reads it.
@@ -144,12 +144,6 @@ pub record Adding (row : List ℤ) (factor : ℤ) (before after : List ℤ) (j :
   pub fits : (i : ℕ) → i < j → is_figure (get_or row i (pos 0)) ≡ true
   pub added : Added (λ i. get_or row i (pos 0)) factor j before after
 
-pub adding_begin : (row : List ℤ) (factor : ℤ) (before : List ℤ) → Adding row factor before before 0
-adding_begin row factor before = record {
-  fits = λ i h. absurd (omega arith);
-  added = added_none (λ i. get_or row i (pos 0)) factor before 0 (λ i h. absurd (omega arith));
-}
-
 -- A figure is in the range of scores.
 pub figure_small : (z : ℤ) → is_figure z ≡ true → nat_abs z ≤ 1000000000
 figure_small z f = let n = between_near 32767 32767 z f (omega arith) in omega arith
@@ -161,9 +155,6 @@ module _ {row : List ℤ} {factor : ℤ} {before after : List ℤ} {j : ℕ} (v 
 
   pub adding_near : {g : ℤ} {count : ℕ} → Asked g count before → nat_abs (to_z w64 (of_z w64 (get_or after j (pos 0)))) ≤ 40000000000000000
   adding_near a = rw (v.added.others j (omega arith)) (place_near a j)
-
-  pub adding_outside : (g : ℤ) (count : ℕ) → j < count → (y : ℤ) → y ≡ get_or row j (pos 0) → is_figure y ≡ false → AddsRow row g count before after false
-  adding_outside g count h y ey f = record { done = λ e. false_true e; outside = λ e. (j, h, rw (← ey) f) }
 
   pub adding_next : j < length after → (y s x : ℤ) → y ≡ get_or row j (pos 0) → is_figure y ≡ true → s ≡ get_or after j (pos 0) → x ≡ s +ℤ factor *ℤ y
       → Adding row factor before (set after j x) (j + 1)
@@ -191,6 +182,3 @@ module _ {row : List ℤ} {factor : ℤ} {before after : List ℤ} {j : ℕ} (v 
               (λ q. let d = eqb-false i j q in a.near i (omega arith));
         };
       }
-
-  pub adding_done : (g : ℤ) (count : ℕ) → factor ≡ g → j ≡ count → AddsRow row g count before after true
-  adding_done g count eg e = rw (← eg, ← e) (record { done = λ q. (v.fits, v.added); outside = λ q. false_true (sym q) })

@@ -1,3 +1,4 @@
+pub mod Asked
 pub mod Integers
 pub mod Putting
 pub mod Loading

@@ -1,8 +1,12 @@
 -- The loads of a table, read along the places of the language: a law for each turn and each return of `read_table`.
+use Rattle.std.specs.Prelude.{Ok, Err}
+use Rattle.outcome.specs.declared.Reason.TheVariants.{BrokenTable}
+use Rattle.score_tree.specs.LoadTable.{whole_table, table_of}
+use Rattle.score_tree.specs.Inner.Results.{settled}
 use Prim.Native.Nat.{ℕ, zero, suc, ◌+◌, ◌*◌, ◌-◌, ◌<◌, ◌≤◌}
 use mathlib.Core.Path.{◌≡◌, refl, sym, ap, ◌∙◌}
 use mathlib.Core.Bool.{Bool, true, false, cond, ◌&&◌}
-use mathlib.Core.Logic.{◌⊎◌, inl, inr, ⊎_elim}
+use mathlib.Core.Logic.{inl, inr, ⊎_elim}
 use mathlib.Core.List.{List, [], ◌∷◌, ◌++◌, map, append_assoc, append-nil}
 use mathlib.Core.Option
 use mathlib.Core.Option.{Option, none, some}
@@ -11,8 +15,8 @@ use lib.ListN.{length, get_or, drop}
 use lib.Seq.{slice, length-slice}
 use lib.Dec.{leb, eqb}
 use lib.IntN.{ℤ, pos}
-use borrow.Author.Tests.{eq-eqb, eqb-true, eqb-false, leb-true, leb-false}
-use Rattle.format_fields.specs.Lists.{all, first, before, is_some}
+use borrow.Author.Tests.{eq-eqb, eqb-true, leb-true, leb-false}
+use Rattle.format_fields.specs.Lists.{all, first, before}
 use Rattle.format_fields.specs.Fields.{Field, pair_at, fields_of}
 use Rattle.format_fields.specs.Inner.Places.{field_end, is_whole, contents_at, field_at, places_from, places, WholeEnd}
 use Rattle.format_fields.proofs.Truth.{by_test, none_some, some_inj, and_both, Mem, any_mem, mem_append, append_cases, mem_first}
@@ -28,7 +32,7 @@ use Rattle.format_language.proofs.Chain.{rising_is}
 use Rattle.format_language.proofs.Lookup.{cond_some}
 use Rattle.score_tree.specs.Figures.{signed, figure_at, figures_from}
 use Rattle.score_tree.specs.LoadTable.{Load, load, Table, load_of, loads_in, loads_of, figures_at, figure_of}
-use Rattle.score_tree.specs.Inner.Kept.{Small, Put, is_load, LoadEnd, Kept}
+use Rattle.score_tree.specs.Inner.Kept.{Small, Put, is_load, Kept}
 
 -- Figures, one by one.
 figures_get : (m : ℕ) (s : List ℕ) (k i : ℕ) → i < m → get_or (figures_from m s k) i (pos 0) ≡ figure_at s (k + 2 * i)
@@ -227,17 +231,17 @@ module _ (s t : List ℕ) (fig : List ℤ) (p q : ℕ) (v : Loading s t fig p q)
     long = v.long;
   })
 
-  module _ (tag : get_or s p 0 ≡ 0x12) (end : ℕ) (ends : LoadEnd s p t q end) where
-    pub load_broken : end ≡ 0 → loads_of (map (entry_at s) (places s)) (fields_of t) ≡ none
+  module _ (tag : get_or s p 0 ≡ 0x12) where
+    pub load_broken : is_load s p t q ≡ false → loads_of (map (entry_at s) (places s)) (fields_of t) ≡ none
     unfolding joined
-    load_broken z = passed_rest ∙ ap (joined v.loads) (loads_none s p (is_production tag) t q _ (ends.none z))
+    load_broken z = passed_rest ∙ ap (joined v.loads) (loads_none s p (is_production tag) t q _ z)
 
-    module _ (some_end : end ≡ 0 → ⊥) where
+    module _ (end : ℕ) (load_there : (is_load s p t q ≡ true) × WholeEnd t q end) where
       loaded : is_load s p t q ≡ true
-      loaded = (ends.some some_end).0
+      loaded = load_there.0
 
       ended : WholeEnd t q end
-      ended = (ends.some some_end).1
+      ended = load_there.1
 
       load_size : pair_at t (q + 1) ≡ 2 * pair_at s (p + 1)
       unfolding is_load
@@ -356,8 +360,9 @@ module _ (s t : List ℕ) where
   entries_are : (l : Language) → entries_of s ≡ some l → map (entry_at s) (places s) ≡ l
   entries_are l e = (holds_entries s l e).entries
 
-  pub broken_is : loads_of (map (entry_at s) (places s)) (fields_of t) ≡ none → (l : Language) → entries_of s ≡ some l → false ≡ is_some (loads_of l (fields_of t))
-  broken_is h l e = sym (ap is_some (rw (entries_are l e) at h))
+  pub broken_is : loads_of (map (entry_at s) (places s)) (fields_of t) ≡ none → (l : Language) → entries_of s ≡ some l → Err BrokenTable ≡ settled (table_of l t)
+  unfolding table_of
+  broken_is h l e = ap (λ (o : Option Table). settled (whole_table o)) (sym (rw (entries_are l e) at h))
 
   pub broken_kept : (fig : List ℤ) → loads_of (map (entry_at s) (places s)) (fields_of t) ≡ none
       → (l : Language) (w : Table) → entries_of s ≡ some l → loads_of l (fields_of t) ≡ some w → Kept fig s w
@@ -388,21 +393,18 @@ module _ (s t : List ℕ) where
         ∙ (ap (λ (o : Option (List Field)). joined v.loads (loads_of [] o)) (fields_done t q (omega arith))
         ∙ ap some (append-nil v.loads))
 
-    pub end_is : (l : Language) → entries_of s ≡ some l → eqb q (length t) ≡ is_some (loads_of l (fields_of t))
-    end_is l e = ends ∙ ap (λ (k : Language). is_some (loads_of k (fields_of t))) (entries_are l e)
-      where
-        ends : eqb q (length t) ≡ is_some (loads_of (map (entry_at s) (places s)) (fields_of t))
-        ends = by_test (eqb q (length t))
-            (λ h. h ∙ sym (ap is_some (no_more (eqb-true _ _ h))))
-            (λ h. let m = v.within in let n = eqb-false q (length t) h in h ∙ sym (ap is_some (more_fields (omega (arith, m, n)))))
+    pub end_more : (q ≡ length t → ⊥) → loads_of (map (entry_at s) (places s)) (fields_of t) ≡ none
+    end_more h = let m = v.within in more_fields (omega (arith, m, h))
 
-    pub end_kept : RisingEntries s → (l : Language) (w : Table) → entries_of s ≡ some l → loads_of l (fields_of t) ≡ some w → Kept fig s w
-    end_kept r l w e f =
+    pub end_is : q ≡ length t → (l : Language) → entries_of s ≡ some l → Ok tt ≡ settled (table_of l t)
+    unfolding table_of
+    end_is h l e = ap (λ (o : Option Table). settled (whole_table o)) (sym (rw (entries_are l e) at (no_more h)))
+
+    pub end_kept : q ≡ length t → RisingEntries s → (l : Language) (w : Table) → entries_of s ≡ some l → loads_of l (fields_of t) ≡ some w → Kept fig s w
+    end_kept h r l w e f =
         let held = holds_entries s l e in
         let rises : Rising entry_key l = is_rising entry_key l (sym (rising_is s l held) ∙ r.rises) in
-        by_test (eqb q (length t))
-        (λ h.
-        let same : v.loads ≡ w = some_inj (sym (no_more (eqb-true _ _ h)) ∙ (ap (λ (k : Language). loads_of k (fields_of t)) held.entries ∙ f)) in
+        let same : v.loads ≡ w = some_inj (sym (no_more h) ∙ (ap (λ (k : Language). loads_of k (fields_of t)) held.entries ∙ f)) in
         let m : places s ≡ v.passed = v.split ∙ (ap (λ (k : List ℕ). v.passed ++ k) (places_done s p past) ∙ append-nil v.passed) in
         record {
           small = v.small;
@@ -412,8 +414,7 @@ module _ (s t : List ℕ) where
               let o : Mem x v.passed = rw (← m) (rw (eqb-true x y z) n) in
               let d = (v.right x o).1 tag in
               d.is i g ∙ sym (figures_found w (rise_of l (fields_of t) w rises f) (get_or s (x + 3) 0) (get_or s (x + 4) 0) d.figures (rw same at d.there) i);
-        })
-        (λ h. let n = eqb-false q (length t) h in none_some (sym (more_fields (omega (arith, v.within, n))) ∙ (ap (λ (k : Language). loads_of k (fields_of t)) held.entries ∙ f)))
+        }
       where
         rise_of : (l : Language) (o : Option (List Field)) (w : Table) → From entry_key 0 l → loads_of l o ≡ some w → From load_key 0 w
         rise_of l none w h e = none_some e

@@ -1,24 +1,25 @@
 -- Figures put in by position, and the end of a load: a law for each return of `load_end`, for each turn of `put_figures`.
 use Prim.Native.Nat.{ℕ, ◌+◌, ◌*◌, ◌-◌, ◌<◌, ◌≤◌}
-use mathlib.Core.Path.{◌≡◌, refl, ◌∙◌}
-use mathlib.Core.Bool.{false}
+use mathlib.Core.Path.{◌≡◌, refl, sym, ◌∙◌}
+use Rattle.std.specs.Prelude.{None}
+use mathlib.Core.Bool.{Bool, true, false, ◌&&◌}
+use Rattle.std.specs.Bool.{then_some}
 use mathlib.Core.List.{List}
 use native.Mathlib.Omega.{arith}
 use lib.ListN.{length, get_or, set, length-set}
 use lib.Seq.{get_or-set_same, get_or-set_other}
 use lib.Dec.{eqb}
 use lib.IntN.{ℤ, pos, nat_abs}
-use borrow.Author.Tests.{eq-eqb, ne_eqb, eqb-true, eqb-false}
+use borrow.Author.Tests.{eqb-true, eqb-false}
 use Rattle.format_fields.specs.Fields.{pair_at}
-use Rattle.format_fields.specs.Inner.Places.{field_end, WholeEnd, EndIfWhole}
-use Rattle.format_fields.proofs.Truth.{by_test}
+use Rattle.format_fields.specs.Inner.Places.{field_end, is_whole, WholeEnd}
+use Rattle.format_fields.proofs.Truth.{by_test, and_both}
+use Rattle.check_operations.proofs.Reading.{two}
+use lib.Pointwise.{pointwise}
+use lib.ListN.{take, drop}
 use Rattle.format_fields.proofs.Places.{end_whole, size_of}
 use Rattle.score_tree.specs.Figures.{figure_at}
 use Rattle.score_tree.specs.Inner.Kept.{Small, Put, is_load, LoadEnd}
-
--- put_figures
-pub put_none : (t : List ℕ) (from : ℕ) (l : List ℤ) (at : ℕ) → Put t from l l at 0
-put_none t from l at = record { long = refl; put = λ i h. absurd (omega arith); below = λ i h. refl; small = λ h. h }
 
 pub small_set : (l : List ℤ) (i : ℕ) (v : ℤ) → i < length l → nat_abs v ≤ 32768 → Small l → Small (set l i v)
 unfolding Small
@@ -43,54 +44,66 @@ put_next t from before l at i count w h k v e b =
 pub put_all : (t : List ℕ) (from : ℕ) (before l : List ℤ) (at i count : ℕ) → Put t from before l at i → count ≤ i → Put t from before l at count
 put_all t from before l at i count w h = record { long = w.long; put = λ j g. w.put j (omega arith); below = w.below; small = w.small }
 
--- load_end
+-- load_end: the tests of the code one by one.
+pub and_true : (a b : Bool) {x : Bool} → a ≡ true → x ≡ b → x ≡ (a && b)
+and_true a b h e = rw h e
+
+pub and_false : (a b : Bool) {x : Bool} → a ≡ false → x ≡ a → x ≡ (a && b)
+and_false a b h e = e ∙ rw h refl
+
+-- Two bytes of each, compared.
+same_pair : (t s : List ℕ) (i j n m : ℕ) → n ≡ i + 2 → m ≡ j + 2 → n ≤ length t → m ≤ length s
+    → pointwise eqb (take (n - i) (drop i t)) (take (m - j) (drop j s)) ≡ (eqb (get_or t i 0) (get_or s j 0) && eqb (get_or t (i + 1) 0) (get_or s (j + 1) 0))
+same_pair t s i j n m en em h k =
+    let x : n - i ≡ 2 = omega arith in
+    let y : m - j ≡ 2 = omega arith in
+    rw (x, y, two t i (omega arith), two s j (omega arith)) (last (eqb (get_or t i 0) (get_or s j 0)) (eqb (get_or t (i + 1) 0) (get_or s (j + 1) 0)))
+  where
+    last : (a b : Bool) → (a && (b && true)) ≡ (a && b)
+    last true true = refl
+    last true false = refl
+    last false b = refl
+
 module _ (s : List ℕ) (p : ℕ) (t : List ℕ) (q : ℕ) where
-  no_load : is_load s p t q ≡ false → LoadEnd s p t q 0
-  no_load h = record { none = λ z. h; some = λ z. absurd (z refl) }
-
-  pub load_cut : (e : ℕ) → EndIfWhole t q e → e ≡ 0 → LoadEnd s p t q 0
+  pub load_cut : is_whole t q ≡ false → LoadEnd s p t q None
   unfolding is_load
-  load_cut e w z = no_load (rw (w.cut z))
+  load_cut h = rw h refl
 
-  module _ (e end : ℕ) (ee : e ≡ field_end s p) (w : EndIfWhole t q end) (z : end ≡ 0 → ⊥) where
-    there : WholeEnd t q end
-    there = w.whole z
+  module _ (e end : ℕ) (ee : e ≡ field_end s p) (there : WholeEnd t q end) where
+    size_is : eqb (end - q - 3) (2 * (e - p - 3)) ≡ eqb (pair_at t (q + 1)) (2 * pair_at s (p + 1))
+    size_is = rw (size_of t q end there.is, size_of s p e ee) refl
 
-    size : end - q - 3 ≡ pair_at t (q + 1)
-    size = size_of t q end there.is
+    found : (v : Bool) → v ≡ is_load s p t q → LoadEnd s p t q (then_some v end)
+    found true h = (sym h, there)
+    found false h = sym h
 
-    pub load_in : (q + 3 ≤ end) × (end ≤ length t)
-    load_in = (there.past, there.fits)
+    -- x and z are what the code knows after the size and after the two bytes
+    module _ {x : Bool} (z : Bool) (ex : x ≡ (eqb (get_or t q 0) 0x24 && eqb (end - q - 3) (2 * (e - p - 3)))) where
+      room : p + 5 ≤ e → x ≡ true → q + 5 ≤ length t
+      room h k =
+          let m : end - q - 3 ≡ 2 * (e - p - 3) = eqb-true _ _ (and_both (eqb (get_or t q 0) 0x24) (eqb (end - q - 3) (2 * (e - p - 3))) (sym ex ∙ k)).1 in
+          let i = there.past in
+          let f = there.fits in
+          omega arith
 
-    pub load_tag : (get_or t q 0 ≡ 0x24 → ⊥) → LoadEnd s p t q 0
-    unfolding is_load
-    load_tag h = no_load (rw (end_whole t q end there, ne_eqb _ _ h))
+      pub load_long : p + 5 ≤ e → e ≤ length s → x ≡ true → z ≡ pointwise eqb (take (q + 5 - (q + 3)) (drop (q + 3) t)) (take (p + 5 - (p + 3)) (drop (p + 3) s))
+          → z ≡ (x && (eqb (get_or t (q + 3) 0) (get_or s (p + 3) 0) && eqb (get_or t (q + 4) 0) (get_or s (p + 4) 0)))
+      load_long h l k e' = rw k (e' ∙ (same_pair t s (q + 3) (p + 3) (q + 5) (p + 5) (omega arith) (omega arith) (room h k) (omega arith) ∙ moved))
+        where
+          moved : (eqb (get_or t (q + 3) 0) (get_or s (p + 3) 0) && eqb (get_or t (q + 3 + 1) 0) (get_or s (p + 3 + 1) 0)) ≡ (eqb (get_or t (q + 3) 0) (get_or s (p + 3) 0) && eqb (get_or t (q + 4) 0) (get_or s (p + 4) 0))
+          moved =
+              let i : q + 3 + 1 ≡ q + 4 = omega arith in
+              let j : p + 3 + 1 ≡ p + 4 = omega arith in
+              rw (i, j) refl
 
-    module _ (tag : get_or t q 0 ≡ 0x24) where
-      pub load_size : (end - q - 3 ≡ 2 * (e - p - 3) → ⊥) → LoadEnd s p t q 0
+      pub load_tested : z ≡ (x && (eqb (get_or t (q + 3) 0) (get_or s (p + 3) 0) && eqb (get_or t (q + 4) 0) (get_or s (p + 4) 0))) → LoadEnd s p t q (then_some z end)
       unfolding is_load
-      load_size h =
-          let n : pair_at t (q + 1) ≡ 2 * pair_at s (p + 1) → ⊥ = λ y. h (omega (arith, size, size_of s p e ee)) in
-          no_load (rw (end_whole t q end there, eq-eqb _ _ tag, ne_eqb _ _ n))
-
-      module _ (sized : end - q - 3 ≡ 2 * (e - p - 3)) where
-        is_size : pair_at t (q + 1) ≡ 2 * pair_at s (p + 1)
-        is_size = omega (arith, size, size_of s p e ee)
-
-        pub load_long : p + 5 ≤ e → q + 7 ≤ length t
-        load_long h = let i = load_in in omega arith
-
-        pub load_result : (get_or t (q + 3) 0 ≡ get_or s (p + 3) 0 → ⊥) → LoadEnd s p t q 0
-        unfolding is_load
-        load_result h = no_load (rw (end_whole t q end there, eq-eqb _ _ tag, eq-eqb _ _ is_size, ne_eqb _ _ h))
-
-        pub load_name : get_or t (q + 3) 0 ≡ get_or s (p + 3) 0 → (get_or t (q + 4) 0 ≡ get_or s (p + 4) 0 → ⊥) → LoadEnd s p t q 0
-        unfolding is_load
-        load_name r h = no_load (rw (end_whole t q end there, eq-eqb _ _ tag, eq-eqb _ _ is_size, eq-eqb _ _ r, ne_eqb _ _ h))
-
-        pub load_is : get_or t (q + 3) 0 ≡ get_or s (p + 3) 0 → get_or t (q + 4) 0 ≡ get_or s (p + 4) 0 → LoadEnd s p t q end
-        unfolding is_load
-        load_is r n = record {
-          none = λ y. absurd (z y);
-          some = λ y. (rw (end_whole t q end there, eq-eqb _ _ tag, eq-eqb _ _ is_size, eq-eqb _ _ r, eq-eqb _ _ n), there);
-        }
+      load_tested ez =
+          found z
+          (ez
+          ∙ rw (ex, size_is, end_whole t q end there)
+          (grouped (eqb (get_or t q 0) 0x24) (eqb (pair_at t (q + 1)) (2 * pair_at s (p + 1))) (eqb (get_or t (q + 3) 0) (get_or s (p + 3) 0) && eqb (get_or t (q + 4) 0) (get_or s (p + 4) 0))))
+        where
+          grouped : (a b c : Bool) → ((a && b) && c) ≡ (a && (b && c))
+          grouped true b c = refl
+          grouped false b c = refl

@@ -2,16 +2,20 @@
 use Prim.Native.Nat.{ℕ, zero, suc, ◌+◌, ◌<◌, ◌≤◌}
 use mathlib.Core.Path.{◌≡◌, refl, sym, ap, ◌∙◌}
 use mathlib.Core.Bool.{Bool, true, false, ◌&&◌}
-use mathlib.Core.List.{List, [], ◌∷◌, ◌++◌, append-nil}
+use Rattle.std.proofs.lemmas.List.{ext_get_or, get_or-map, length-map}
+use mathlib.Core.List.{List, [], ◌∷◌, ◌++◌, map, append-nil}
 use native.Mathlib.Omega.{arith}
-use lib.ListN.{length, get_or, set, length-set, replicate, length-replicate}
+use lib.ListN.{length, get_or, set, length-set, replicate, length-replicate, take}
+use Rattle.std.proofs.lemmas.List.{length-take}
 use lib.Seq.{get_or-set_same, get_or-set_other}
+use Rattle.std.proofs.lemmas.List.{get_or-take}
 use lib.Dec.{ltb}
-use lib.IntN.{ℤ, pos, nat_abs, ◌+ℤ◌, ◌*ℤ◌}
+use lib.IntN.{ℤ, pos, ◌+ℤ◌, ◌*ℤ◌}
 use borrow.Author.Tests.{ltb-true, ltb-false}
 use Rattle.format_fields.proofs.Truth.{by_test, and_both}
 use Rattle.tree_reader.specs.Syntax.{Read, done, deep, broken, and_then}
-use Rattle.score_tree.specs.Inner.Sums.{turned, weighed, AllNear}
+use Rattle.score_tree.specs.declared.figures.Ends.{Ends}
+use Rattle.score_tree.specs.Inner.Sums.{turned, ends, weighed, Near, AllNear}
 use Rattle.score_tree.specs.Inner.Spreads.{Spread, spread, row_sum, row_within, read_row}
 use Rattle.score_tree.proofs.Weighing.{zeros_near, store_near}
 
@@ -55,66 +59,61 @@ within_snoc (b ∷ t) a = ap (λ (y : Bool). b.within && y) (within_snoc t a) �
     grouped true y z = refl
     grouped false y z = refl
 
--- Both ends of the operands that are in the range are kept by their places.
-pub record Held (row : List Spread) (least greatest : List ℤ) : Type 0 where
-  pub long : length least ≡ 8
-  pub wide : length greatest ≡ 8
-  pub below : AllNear least
-  pub above : AllNear greatest
-  pub is : (j : ℕ) → j < length row → (get_or row j nothing).within ≡ true
-      → (get_or least j (pos 0) ≡ (get_or row j nothing).least) × (get_or greatest j (pos 0) ≡ (get_or row j nothing).greatest)
+-- Both ends of an operand.
+abbrev pub ends_in : Spread → Ends
+ends_in a = ends a.least a.greatest
 
-pub held_none : Held [] (replicate 8 (pos 0)) (replicate 8 (pos 0))
+-- No ends.
+abbrev pub no_ends : Ends
+no_ends = ends (pos 0) (pos 0)
+
+-- The ends of the operands that are in the range are kept by their places.
+pub record Held (row : List Spread) (t : List Ends) : Type 0 where
+  pub long : length t ≡ 8
+  pub near : AllNear t
+  pub is : (j : ℕ) → j < length row → (get_or row j nothing).within ≡ true → get_or t j no_ends ≡ ends_in (get_or row j nothing)
+
+pub held_none : Held [] (replicate 8 no_ends)
 held_none = record {
-  long = length-replicate 8 (pos 0);
-  wide = length-replicate 8 (pos 0);
-  below = zeros_near 8;
-  above = zeros_near 8;
+  long = length-replicate 8 no_ends;
+  near = zeros_near 8;
   is = λ j h. absurd (omega arith);
 }
 
-module _ {row : List Spread} {least greatest : List ℤ} (v : Held row least greatest) (a : Spread) where
-  -- An operand with its ends: x and y are what the machine reads of them.
-  module _ (i : ℕ) (h : i < 8) (n : i ≡ length row) (x y : ℤ) (ex : x ≡ a.least) (ey : y ≡ a.greatest) where
-    here : (j : ℕ) → j ≡ i → (get_or (set least i x) j (pos 0) ≡ (get_or (snoc row a) j nothing).least) × (get_or (set greatest i y) j (pos 0) ≡ (get_or (snoc row a) j nothing).greatest)
-    here j e =
-        let s = snoc_last row a j (e ∙ n) in
-        let u : i < length least = omega (arith, v.long) in
-        let w : i < length greatest = omega (arith, v.wide) in
-        (rw (s, e) (get_or-set_same least i x (pos 0) u ∙ ex), rw (s, e) (get_or-set_same greatest i y (pos 0) w ∙ ey))
+module _ {row : List Spread} {t : List Ends} (v : Held row t) (a : Spread) where
+  -- An operand with its ends.
+  module _ (i : ℕ) (h : i < 8) (n : i ≡ length row) (e : Ends) (ee : e ≡ ends_in a) where
+    here : (j : ℕ) → j ≡ i → get_or (set t i e) j no_ends ≡ ends_in (get_or (snoc row a) j nothing)
+    here j q =
+        let s = snoc_last row a j (q ∙ n) in
+        let u : i < length t = omega (arith, v.long) in
+        rw (s, q) (get_or-set_same t i e no_ends u ∙ ee)
 
-    before : (j : ℕ) → j < length row → (get_or (snoc row a) j nothing).within ≡ true
-        → (get_or (set least i x) j (pos 0) ≡ (get_or (snoc row a) j nothing).least) × (get_or (set greatest i y) j (pos 0) ≡ (get_or (snoc row a) j nothing).greatest)
+    before : (j : ℕ) → j < length row → (get_or (snoc row a) j nothing).within ≡ true → get_or (set t i e) j no_ends ≡ ends_in (get_or (snoc row a) j nothing)
     before j b q =
         let s = snoc_before row a j b in
-        let ne : j ≡ i → ⊥ = λ e. absurd (omega arith) in
-        let o = v.is j b (ap (λ (r : Spread). r.within) (sym s) ∙ q) in
-        (get_or-set_other least i j x (pos 0) ne ∙ (o.0 ∙ ap (λ (r : Spread). r.least) (sym s)), get_or-set_other greatest i j y (pos 0) ne ∙ (o.1 ∙ ap (λ (r : Spread). r.greatest) (sym s)))
+        let ne : j ≡ i → ⊥ = λ x. absurd (omega arith) in
+        get_or-set_other t i j e no_ends ne ∙ (v.is j b (ap (λ (r : Spread). r.within) (sym s) ∙ q) ∙ ap ends_in (sym s))
 
-    pub held_next : nat_abs x ≤ 1000000000 → nat_abs y ≤ 1000000000 → Held (snoc row a) (set least i x) (set greatest i y)
-    held_next bx by' = record {
-      long = length-set least i x ∙ v.long;
-      wide = length-set greatest i y ∙ v.wide;
-      below = store_near least i x (omega (arith, v.long)) v.below bx;
-      above = store_near greatest i y (omega (arith, v.wide)) v.above by';
+    pub held_next : Near e → Held (snoc row a) (set t i e)
+    held_next near = record {
+      long = length-set t i e ∙ v.long;
+      near = store_near t i e (omega (arith, v.long)) v.near near;
       is = λ j g q. by_test (ltb j (length row))
-          (λ e. before j (ltb-true j (length row) e) q)
-          (λ e. let m = ltb-false j (length row) e in let z = length_snoc row a in here j (omega arith));
+          (λ x. before j (ltb-true j (length row) x) q)
+          (λ x. let m = ltb-false j (length row) x in let z = length_snoc row a in here j (omega arith));
     }
 
   -- An operand that is out of the range.
-  pub held_skip : a.within ≡ false → Held (snoc row a) least greatest
+  pub held_skip : a.within ≡ false → Held (snoc row a) t
   held_skip o = record {
     long = v.long;
-    wide = v.wide;
-    below = v.below;
-    above = v.above;
+    near = v.near;
     is = λ j g q. by_test (ltb j (length row))
         (λ e.
         let b = ltb-true j (length row) e in
         let s = snoc_before row a j b in
-        let h = v.is j b (ap (λ (r : Spread). r.within) (sym s) ∙ q) in
-        (h.0 ∙ ap (λ (r : Spread). r.least) (sym s), h.1 ∙ ap (λ (r : Spread). r.greatest) (sym s)))
+        v.is j b (ap (λ (r : Spread). r.within) (sym s) ∙ q) ∙ ap ends_in (sym s))
         (λ e.
         let m = ltb-false j (length row) e in
         let z = length_snoc row a in
@@ -122,27 +121,17 @@ module _ {row : List Spread} {least greatest : List ℤ} (v : Held row least gre
         Rattle.format_fields.proofs.Truth.false_true (sym o ∙ (ap (λ (r : Spread). r.within) (sym s) ∙ q)));
   }
 
--- The sum of a row at an end, by the ends that are kept: the row's operands stand from i on.
-module _ (same other : Spread → ℤ) (fig : List ℤ) (q : ℕ) (xs ys : List ℤ) where
-  pub weighed_row : (row : List Spread) (i : ℕ) (factor : ℕ → ℤ)
-      → ((j : ℕ) → j < length row → get_or fig (q + (i + j)) (pos 0) ≡ factor j)
-      → ((j : ℕ) → j < length row → (get_or xs (i + j) (pos 0) ≡ same (get_or row j nothing)) × (get_or ys (i + j) (pos 0) ≡ other (get_or row j nothing)))
-      → weighed fig q xs ys i (length row) ≡ row_sum same other factor row
-  unfolding weighed row_sum
-  weighed_row [] i factor f h = refl
-  weighed_row (a ∷ row) i factor f h =
-      let z : i + 0 ≡ i = omega arith in
-      let fa : get_or fig (q + i) (pos 0) ≡ factor 0 = ap (λ (n : ℕ). get_or fig (q + n) (pos 0)) (sym z) ∙ f 0 (omega arith) in
-      let xa : get_or xs i (pos 0) ≡ same a = ap (λ (n : ℕ). get_or xs n (pos 0)) (sym z) ∙ (h 0 (omega arith)).0 in
-      let ya : get_or ys i (pos 0) ≡ other a = ap (λ (n : ℕ). get_or ys n (pos 0)) (sym z) ∙ (h 0 (omega arith)).1 in
-      let rest : weighed fig q xs ys (i + 1) (length row) ≡ row_sum same other (λ j. factor (suc j)) row =
-      weighed_row row (i + 1) (λ j. factor (suc j))
-      (λ j g. let e : i + 1 + j ≡ i + suc j = omega arith in ap (λ (n : ℕ). get_or fig (q + n) (pos 0)) e ∙ f (suc j) (omega arith))
-      (λ j g.
-      let e : i + 1 + j ≡ i + suc j = omega arith in
-      let o = h (suc j) (omega arith) in
-      (ap (λ (n : ℕ). get_or xs n (pos 0)) e ∙ o.0, ap (λ (n : ℕ). get_or ys n (pos 0)) e ∙ o.1)) in
-      λ k. fa k *ℤ turned (fa k) (xa k) (ya k) +ℤ rest k
+-- The sum of a row at an end, by the ends that are kept and as many factors.
+pub weighed_row : (same other : Ends → ℤ) (row : List Spread) (fs : List ℤ) (factor : ℕ → ℤ) → length fs ≡ length row → ((j : ℕ) → j < length row → get_or fs j (pos 0) ≡ factor j)
+    → weighed same other fs (map ends_in row) ≡ row_sum (λ a. same (ends_in a)) (λ a. other (ends_in a)) factor row
+unfolding weighed row_sum
+weighed_row same other [] [] factor n f = refl
+weighed_row same other [] (g ∷ fs) factor n f = absurd (omega arith)
+weighed_row same other (a ∷ row) [] factor n f = absurd (omega arith)
+weighed_row same other (a ∷ row) (g ∷ fs) factor n f =
+    let first : g ≡ factor 0 = f 0 (omega arith) in
+    let rest = weighed_row same other row fs (λ j. factor (suc j)) (omega arith) (λ j h. f (suc j) (omega arith)) in
+    λ k. first k *ℤ turned (first k) (same (ends_in a)) (other (ends_in a)) +ℤ rest k
 
 -- Each operand of a row that is within is so.
 pub each_within : (row : List Spread) → row_within row ≡ true → (j : ℕ) → j < length row → (get_or row j nothing).within ≡ true
@@ -150,6 +139,15 @@ unfolding row_within
 each_within [] h j g = absurd (omega arith)
 each_within (a ∷ row) h zero g = (and_both a.within (row_within row) h).0
 each_within (a ∷ row) h (suc j) g = each_within row (and_both a.within (row_within row) h).1 j (omega arith)
+
+-- The ends that are kept for a row that is within.
+pub row_kept : (row : List Spread) (t : List Ends) → Held row t → length row ≤ 8 → row_within row ≡ true → take (length row) t ≡ map ends_in row
+row_kept row t v few w =
+    let long : length (take (length row) t) ≡ length row = omega (arith, v.long, length-take {A = Ends}) in
+    ext_get_or no_ends (take (length row) t) (map ends_in row) (long ∙ sym (length-map row ends_in))
+    (λ i h.
+    let g : i < length row = omega arith in
+    get_or-take (length row) t i no_ends g ∙ (v.is i g (each_within row w i g) ∙ sym (get_or-map ends_in row i nothing no_ends g)))
 
 -- Reading operands behind those that were read.
 then_snoc : (row : List Spread) (a : Spread) (o : Read (List Spread))

@@ -1,4 +1,5 @@
 -- A code of the input: what stands at a leaf, and what follows the name of a production.
+use Rattle.std.specs.Prelude.{Option, Some}
 use Prim.Native.Nat.{ℕ, zero, suc, ◌+◌, ◌-◌, ◌/◌, ◌%◌, ◌<◌, ◌≤◌}
 use mathlib.Core.Path.{◌≡◌, refl, sym, ap, ◌∙◌}
 use mathlib.Core.Bool.{true}
@@ -23,11 +24,10 @@ use Rattle.tree_reader.specs.Inner.Index.{Indexed, arguments_before}
 use Rattle.run_table.specs.Inner.Stands.{Stands}
 use Rattle.run_table.proofs.Standing.{stands_head}
 use Rattle.run_emit.proofs.Skips.{some_bytes}
+use Rattle.score_tree.specs.declared.loaded.Loaded.{Loaded}
 use Rattle.score_tree.specs.Figures.{is_figure}
 use Rattle.score_tree.specs.Linear.{Loads, constant, used, form, passes}
 use Rattle.score_tree.specs.Inner.Terms.{bytes_of, all_bytes, World, KindsAt, ProductionAt, Plain, TermAsks, NodeAsks, leaf_size, leaf_form, LeafIn, AddsLeaf, Adds}
-use Rattle.score_tree.specs.declared.form.Formed.{Formed}
-use Rattle.score_tree.specs.declared.form.Formed.TheVariants.{To, Outside}
 use Rattle.score_tree.proofs.Leaves.{added_as}
 
 -- Arguments are counted from 1.
@@ -169,22 +169,13 @@ production_at world k p ks h i e =
     record { there = at.there; size = n.0; few = n.1; kinds = at.kinds; figures_are = world.is k p ks h i e }
 
 -- What an answer says.
-pub to_inj : {m n : ℕ} → To m ≡ To n → m ≡ n
-to_inj e = cc
-
-pub to_not : {A : Type 0} {m : ℕ} → To m ≡ Outside → A
-to_not e = let y : ◌≡◌ {A = ℕ} 0 1 = cc in absurd (omega arith)
-
-pub out_not : {A : Type 0} {m : ℕ} → Outside ≡ To m → A
-out_not e = let y : ◌≡◌ {A = ℕ} 0 1 = cc in absurd (omega arith)
-
-pub adds_as : {w : Loads} {u v : Code} {f factor : ℤ} {count : ℕ} {before after : List ℤ} {e end : ℕ} {r : Formed} → u ≡ v → f ≡ factor → e ≡ end
+pub adds_as : {w : Loads} {u v : Code} {f factor : ℤ} {count : ℕ} {before after : List ℤ} {e end : ℕ} {r : Option ℕ} → u ≡ v → f ≡ factor → e ≡ end
     → Adds w v f count before after e r → Adds w u factor count before after end r
 adds_as eu ef ee h = rw (eu, ← ef, ← ee) h
 
 -- What `form_at` asks and answers.
-module _ {s index : List ℕ} {fig : List ℤ} {b : List ℕ} {k at left : ℕ} {l : Language} {given : Uses} {w : Loads} {u : Code}
-    (a : TermAsks s index fig b k at left l given w u) where
+module _ {ld : Loaded} {b : List ℕ} {k at left : ℕ} {l : Language} {given : Uses} {w : Loads} {u : Code}
+    (a : TermAsks ld b k at left l given w u) where
   pub term_in : at < length b
   term_in = let n = some_bytes Syntaxes.Code u in let i = a.stands.inside in omega arith
 
@@ -197,10 +188,10 @@ module _ {s index : List ℕ} {fig : List ℤ} {b : List ℕ} {k at left : ℕ} 
 
     -- The leaf is added: f is what the machine reads of the factor.
     pub leaf_adds : {f factor : ℤ} {count : ℕ} {before after : List ℤ} {e : ℕ} → f ≡ factor → AddsLeaf b at f count before after e
-        → Adds w u factor count before after (at + length (bytes_of u)) (To e)
-    leaf_adds ef h = adds_as refl ef refl (record {
-      done = λ m q. (omega (arith, to_inj q, h.end, leaf.long), (λ j i. leaf.passed j), added_as (λ j i. leaf.is j) h.added);
-      outside = λ q. to_not q;
+        → Adds w u factor count before after (at + length (bytes_of u)) (Some e)
+    leaf_adds {e = e} ef h = adds_as refl ef refl (record {
+      done = λ m q. (let i : e ≡ m = cc in omega (arith, i, h.end, leaf.long), (λ j i. leaf.passed j), added_as (λ j i. leaf.is j) h.added);
+      outside = λ q. cc;
     })
 
   module _ (y : get_or b at 0 ≡ 1) where
@@ -213,15 +204,15 @@ module _ {s index : List ℕ} {fig : List ℤ} {b : List ℕ} {k at left : ℕ} 
     pub name_in : at + 2 ≤ length b
     name_in = ns.inside
 
-    -- place is what the index has for the name
-    module _ (n h place : ℕ) (en : n ≡ get_or b (at + 1) 0) (small : n < 256) (eh : h ≡ k) (ep : place ≡ get_or index (production_key h n) 0) where
+    -- place is what the ld.index.now has for the name
+    module _ (n h place : ℕ) (en : n ≡ get_or b (at + 1) 0) (small : n < 256) (eh : h ≡ k) (ep : place ≡ get_or ld.index.now (production_key h n) 0) where
       same : n ≡ ns.name
       same = en ∙ ns.named
 
-      at_place : place ≡ get_or index (production_key k ns.name) 0
-      at_place = ep ∙ (ap (λ (i : ℕ). get_or index (production_key i n) 0) eh ∙ ap (λ (i : ℕ). get_or index (production_key k i) 0) same)
+      at_place : place ≡ get_or ld.index.now (production_key k ns.name) 0
+      at_place = ep ∙ (ap (λ (i : ℕ). get_or ld.index.now (production_key i n) 0) eh ∙ ap (λ (i : ℕ). get_or ld.index.now (production_key k i) 0) same)
 
-      pub node_asked : NodeAsks s index fig place b (at + 2) (left - 1) l given w k ns.name ns.operands ns.kinds
+      pub node_asked : NodeAsks ld place b (at + 2) (left - 1) l given w k ns.name ns.operands ns.kinds
       node_asked =
           let few : ns.name < 256 = rw same at small in
           let p = production_at a.world k ns.name ns.kinds a.kind few ns.known in
@@ -229,7 +220,7 @@ module _ {s index : List ℕ} {fig : List ℤ} {b : List ℕ} {k at left : ℕ} 
           let v = a.levels in
           record { world = a.world; plain = a.plain; production = rw at_place p; typed = ns.typed; stands = ns.stands; levels = omega arith }
 
-      pub node_adds : {f factor : ℤ} {count : ℕ} {before after : List ℤ} {r : Formed} → f ≡ factor
+      pub node_adds : {f factor : ℤ} {count : ℕ} {before after : List ℤ} {r : Option ℕ} → f ≡ factor
           → Adds w (node k ns.name ns.operands) f count before after (at + 2 + length (all_bytes ns.operands)) r
           → Adds w u factor count before after (at + length (bytes_of u)) r
       node_adds ef h =

@@ -1,7 +1,6 @@
 -- The score of a tree (paper 02, 2026-03).
 use Rattle.std.specs.Prelude.{ℕ, not, List, ℤ, pos}
-use Rattle.outcome.specs.Outcome.{Result, value, refused, refuse_if, ◌>>=◌, checked}
-use Rattle.outcome.specs.declared.Outcome.{Outcome}
+use Rattle.outcome.specs.Outcome.{Result, value, refused, refuse_if, ◌>>=◌, checked, Outcome}
 use Rattle.outcome.specs.declared.Reason.TheVariants.{ScoreOutOfRange}
 use Rattle.format_language.specs.LanguageFile.{language_of}
 use Rattle.tree_reader.specs.Code.{Code}

@@ -1,16 +1,13 @@
-// Signed figures, and the sums that scores are made of. Each function has one signed operation.
+// Signed figures, and the sums that scores are made of.
 ghost use Rattle.std.specs.Prelude.{◌≡◌, true, ◌+◌, ◌<◌, ◌≤◌, length, pos, nat_abs, ◌+ℤ◌, ◌*ℤ◌};
 ghost use Rattle.score_tree.specs.Figures.{signed, figure_at, is_figure, is_score, unsigned};
 ghost use Rattle.score_tree.specs.Inner.Kept.{Small};
-ghost use Rattle.score_tree.specs.Inner.Sums.{turned, weighed, AllNear};
+ghost use Rattle.score_tree.specs.Inner.Sums.{turned, low, high, weighed, AllNear};
 
 use format_fields::bytes::pair_in;
 
-// The most arguments that a production has.
-pub const ARGUMENTS: usize = 8;
-
 // The least and the greatest score.
-#[derive(Clone, Copy)]
+#[derive(Clone, Copy, Debug, PartialEq, Eq)]
 pub struct Ends {
     pub least: i64,
     pub greatest: i64,
@@ -21,10 +18,7 @@ fn decode(n: usize) -> i32
     requires { n < 65536 }
     ensures { (result ≡ signed n) × (nat_abs result ≤ 32768) }
 {
-    if n < 32768 {
-        return n as i32;
-    }
-    n as i32 - 65536
+    i32::from((n as u16).cast_signed())
 }
 
 // The figure in the two bytes at a position of a table.
@@ -39,46 +33,22 @@ pub fn figure(table: &[u8], at: usize) -> i32
 pub fn is_figure(z: i64) -> bool
     ensures { result ≡ is_figure z }
 {
-    if z < -32_768 {
-        return false;
-    }
-    z <= 32_767
+    (-32_768..=32_767).contains(&z)
 }
 
 // Whether a finished score is in the range.
 pub fn is_score(z: i64) -> bool
     ensures { result ≡ is_score z }
 {
-    if z < -1_000_000_000 {
-        return false;
-    }
-    z <= 1_000_000_000
+    (-1_000_000_000..=1_000_000_000).contains(&z)
 }
 
 // The number that stands for a figure in two bytes.
-pub fn encode(z: i64) -> u32
+pub fn encode(z: i64) -> u16
     requires { is_figure z ≡ true }
     ensures { (result ≡ unsigned z) × (result < 65536) }
 {
-    if z < 0 {
-        return (z + 65_536) as u32;
-    }
-    z as u32
-}
-
-// A figure in the width of the sums.
-pub fn wide(figure: i32) -> i64
-    ensures { result ≡ figure }
-{
-    figure as i64
-}
-
-// A value of two bytes in that width.
-pub fn score_of(value: usize) -> i64
-    requires { value < 65536 }
-    ensures { result ≡ pos value }
-{
-    value as i64
+    (z as i16).cast_unsigned()
 }
 
 // A sum and a factor times a score.
@@ -86,7 +56,7 @@ pub fn add_scaled(sum: i64, factor: i32, score: i64) -> i64
     requires { (nat_abs sum ≤ 40000000000000000) × (nat_abs factor ≤ 32768) × (nat_abs score ≤ 1000000000) }
     ensures { result ≡ sum +ℤ factor *ℤ score }
 {
-    sum + wide(factor) * score
+    sum + i64::from(factor) * score
 }
 
 // A sum and a factor times an end of an operand: a factor below 0 takes the other end.
@@ -101,30 +71,19 @@ fn add_end(sum: i64, factor: i32, same: i64, other: i64) -> i64
 }
 
 // A constant and each factor times an end of its operand, added from the last to the first, at both ends: the one sum of plans,
-// fixed and loose. The factors stand in the figures from a position on.
-pub fn weigh(
-    constant: i64,
-    figures: &[i32],
-    from: usize,
-    count: usize,
-    least: &[i64; ARGUMENTS],
-    greatest: &[i64; ARGUMENTS],
-) -> Ends
-    requires { (nat_abs constant ≤ 32768) × (from + count ≤ length figures.now) × (length figures.now ≡ 1024) × (count ≤ 8) × Small figures.now × AllNear least.now × AllNear greatest.now }
-    ensures { (result.least ≡ constant +ℤ weighed figures.now from least.now greatest.now 0 count)
-        × (result.greatest ≡ constant +ℤ weighed figures.now from greatest.now least.now 0 count) }
+// fixed and loose.
+pub fn weigh(constant: i64, factors: &[i32], operands: &[Ends]) -> Ends
+    requires { (nat_abs constant ≤ 32768) × (length factors.now ≡ length operands.now) × (length operands.now ≤ 8) × Small factors.now × AllNear operands.now }
+    ensures { (result.least ≡ constant +ℤ weighed low high factors.now operands.now)
+        × (result.greatest ≡ constant +ℤ weighed high low factors.now operands.now) }
 {
-    let mut low = constant;
-    let mut high = constant;
-    let mut i = count;
-    while 0 < i {
-        i -= 1;
-        let factor = figures[from + i];
-        low = add_end(low, factor, least[i], greatest[i]);
-        high = add_end(high, factor, greatest[i], least[i]);
+    let mut least = constant;
+    let mut greatest = constant;
+    for i in (0..operands.len()).rev() {
+        let factor = factors[i];
+        let operand = operands[i];
+        least = add_end(least, factor, operand.least, operand.greatest);
+        greatest = add_end(greatest, factor, operand.greatest, operand.least);
     }
-    Ends {
-        least: low,
-        greatest: high,
-    }
+    Ends { least, greatest }
 }

@@ -7,20 +7,14 @@ ghost use Rattle.tree_reader.specs.Typing.{Uses};
 ghost use Rattle.score_tree.specs.Linear.{Loads};
 ghost use Rattle.score_tree.specs.Inner.Terms.{bytes_of, all_bytes, LeafIn, TermAsks, NodeAsks, Asked, AddsLeaf, AddsRow, Adds};
 
-use crate::figures::{add_scaled, is_figure, score_of, wide};
-use format_fields::bytes::{pair_in, to_usize};
+use crate::figures::{add_scaled, is_figure};
+use crate::loaded::Loaded;
+use format_fields::bytes::pair_in;
 use tree_reader::node::place_at;
 use tree_reader::operands::{first_operand, last_operand, production_key};
 
 // The most places that a form has: a constant, and a factor for each argument.
 pub const PLACES: usize = 9;
-
-// Where a code ends whose form was added; or that a production's finished form does not fit two bytes.
-#[derive(Clone, Copy)]
-pub enum Formed {
-    To(usize),
-    Outside,
-}
 
 // Adds a factor times the form of the leaf at a position to a sum, and says where the leaf ends. Only so many places are asked
 // for: an argument past them is not among them.
@@ -29,11 +23,11 @@ fn add_leaf(bytes: &[u8], at: usize, factor: i32, count: usize, sum: &mut [i64; 
     ensures { AddsLeaf bytes.now at factor count sum.old sum.new result }
 {
     if bytes[at] == 2 {
-        let value = score_of(pair_in(bytes, at + 1));
+        let value = pair_in(bytes, at + 1) as i64;
         sum[0] = add_scaled(sum[0], factor, value);
         return at + 3;
     }
-    let number = to_usize(bytes[at + 1]);
+    let number = usize::from(bytes[at + 1]);
     if count <= number {
         return at + 2;
     }
@@ -41,29 +35,26 @@ fn add_leaf(bytes: &[u8], at: usize, factor: i32, count: usize, sum: &mut [i64; 
     at + 2
 }
 
-// Adds a factor times a finished form to a sum, place by place; false if a place does not fit two bytes.
-fn add_row(row: &[i64; PLACES], factor: i32, count: usize, sum: &mut [i64; PLACES]) -> bool
+// Adds a factor times a finished form to a sum, place by place, where each place fits two bytes.
+fn add_row(row: &[i64; PLACES], factor: i32, count: usize, sum: &mut [i64; PLACES]) -> Option<()>
     requires { Asked factor count row.now × Asked factor count sum.old }
     ensures { AddsRow row.now factor count sum.old sum.new result }
 {
-    let mut j = 0;
-    while j < count {
+    for j in 0..count {
         let z = row[j];
         if !is_figure(z) {
-            return false;
+            return None;
         }
         sum[j] = add_scaled(sum[j], factor, z);
-        j += 1;
     }
-    true
+    Some(())
 }
 
-// Adds a factor times the first places of the form of the code of a kind at a position, with so many levels left.
+// Adds a factor times the first places of the form of the code of a kind at a position, with so many levels left, and says where
+// the code ends; none where a production's finished form does not fit two bytes.
 #[cycle(form_at_form_node)]
 pub fn form_at(
-    language: &[u8],
-    index: &[u16],
-    figures: &[i32],
+    loaded: &Loaded,
     kind: u8,
     bytes: &[u8],
     at: usize,
@@ -71,21 +62,19 @@ pub fn form_at(
     factor: i32,
     count: usize,
     sum: &mut [i64; PLACES],
-) -> Formed
-    requires { Asked factor count sum.old × ((l : Language) × (given : Uses) × (w : Loads) × (u : Code) × TermAsks language.now index.now figures.now bytes.now kind at left l given w u) }
-    ensures { (l : Language) (given : Uses) (w : Loads) (u : Code) → TermAsks language.now index.now figures.now bytes.now kind at left l given w u
+) -> Option<usize>
+    requires { Asked factor count sum.old × ((l : Language) × (given : Uses) × (w : Loads) × (u : Code) × TermAsks loaded.now bytes.now kind at left l given w u) }
+    ensures { (l : Language) (given : Uses) (w : Loads) (u : Code) → TermAsks loaded.now bytes.now kind at left l given w u
         → Adds w u factor count sum.old sum.new (at + length (bytes_of u)) result }
 {
     if bytes[at] != 1 {
-        return Formed::To(add_leaf(bytes, at, factor, count, sum));
+        return Some(add_leaf(bytes, at, factor, count, sum));
     }
-    let name = to_usize(bytes[at + 1]);
-    let key = production_key(to_usize(kind), name);
-    let production = place_at(index, key);
+    let name = usize::from(bytes[at + 1]);
+    let key = production_key(usize::from(kind), name);
+    let production = place_at(loaded.index, key);
     form_node(
-        language,
-        index,
-        figures,
+        loaded,
         production,
         bytes,
         at + 2,
@@ -100,9 +89,7 @@ pub fn form_at(
 // form is put together in a row of its own, as it is tested once it is finished.
 #[cycle(form_at_form_node)]
 fn form_node(
-    language: &[u8],
-    index: &[u16],
-    figures: &[i32],
+    loaded: &Loaded,
     production: usize,
     bytes: &[u8],
     at: usize,
@@ -110,36 +97,20 @@ fn form_node(
     factor: i32,
     count: usize,
     sum: &mut [i64; PLACES],
-) -> Formed
-    requires { Asked factor count sum.old × ((l : Language) × (given : Uses) × (w : Loads) × (k : ℕ) × (p : ℕ) × (ts : Codes) × (ks : List ℕ) × NodeAsks language.now index.now figures.now production bytes.now at left l given w k p ts ks) }
-    ensures { (l : Language) (given : Uses) (w : Loads) (k p : ℕ) (ts : Codes) (ks : List ℕ) → NodeAsks language.now index.now figures.now production bytes.now at left l given w k p ts ks
+) -> Option<usize>
+    requires { Asked factor count sum.old × ((l : Language) × (given : Uses) × (w : Loads) × (k : ℕ) × (p : ℕ) × (ts : Codes) × (ks : List ℕ) × NodeAsks loaded.now production bytes.now at left l given w k p ts ks) }
+    ensures { (l : Language) (given : Uses) (w : Loads) (k p : ℕ) (ts : Codes) (ks : List ℕ) → NodeAsks loaded.now production bytes.now at left l given w k p ts ks
         → Adds w (node k p ts) factor count sum.old sum.new (at + length (all_bytes ts)) result }
 {
-    let stop = last_operand(language, production);
+    let stop = last_operand(loaded.language, production);
     let mut row = [0i64; PLACES];
-    row[0] = wide(figures[production + 3]);
-    let mut q = first_operand(production);
+    row[0] = i64::from(loaded.figures[production + 3]);
     let mut to = at;
-    while q < stop {
-        let Formed::To(e) = form_at(
-            language,
-            index,
-            figures,
-            language[q],
-            bytes,
-            to,
-            left,
-            figures[q],
-            count,
-            &mut row,
-        ) else {
-            return Formed::Outside;
-        };
-        to = e;
-        q += 1;
+    for q in first_operand(production)..stop {
+        let kind = loaded.language[q];
+        let load = loaded.figures[q];
+        to = form_at(loaded, kind, bytes, to, left, load, count, &mut row)?;
     }
-    if !add_row(&row, factor, count, sum) {
-        return Formed::Outside;
-    }
-    Formed::To(to)
+    add_row(&row, factor, count, sum)?;
+    Some(to)
 }

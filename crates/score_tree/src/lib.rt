@@ -3,6 +3,7 @@
 
 pub mod figures;
 pub mod form;
+pub mod loaded;
 pub mod plan;
 pub mod prepare;
 pub mod score;

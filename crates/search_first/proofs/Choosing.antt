@@ -1,7 +1,8 @@
 -- The name of the first tree: a law for each return and turn of `choose`.
 use Prim.Native.Nat.{ℕ, suc, ◌+◌, ◌≤◌, ◌<◌}
-use mathlib.Core.Path.{◌≡◌}
+use mathlib.Core.Path.{◌≡◌, refl}
 use mathlib.Core.Option.{none}
+use Rattle.std.specs.Prelude.{Some}
 use native.Mathlib.Omega.{arith}
 use native.Mathlib.Decide.{dec_le}
 use Rattle.format_language.specs.Language.{Language, range_of}
@@ -29,15 +30,19 @@ module _ (l : Language) (f : Clauses) (n k : ℕ) (g : Goal) where
       go (no d) (no e) = gap.none q n s (omega arith) i w
 
   module _ (named : Named l) (t : Code) (plain : range_of l k ≡ none) (h : First l f (suc n) k g t) where
-    pub choose_here : (name r : ℕ) → NoneBelow l f n k g name → NeedsNamed l f n k name (suc name) g r → r ≤ n → name < 256 → (s : Codes) × (t ≡ node k name s) × (name < 256)
-    choose_here name r below q i few =
+    pub choose_here : (name r : ℕ) → NoneBelow l f n k g name → NeedsNamed l f n k name (suc name) g r → r ≤ n → (p : ℕ) × (Some name ≡ Some p) × (s : Codes) × (t ≡ node k p s)
+    choose_here name r below q i =
         let z = q.finds i in
         let e : z.0 ≡ name = omega (arith, z.1, z.2) in
         let w : Fits l f (suc n) k g (node k name z.3) = rw e at (fits_more {n = suc r} {m = suc n} (omega arith) z.4) in
         let y = first_name l f named k g plain n name t h below z.3 w in
-        (y.0, y.1, few)
+        (name, refl, y.0, y.1)
 
-    pub choose_none : (name : ℕ) → 256 ≤ name → NoneBelow l f n k g name → (s : Codes) × (t ≡ node k name s) × (name < 256)
-    choose_none name i below =
+    pub choose_none : {A : Type 0} → NoneBelow l f n k g 256 → A
+    choose_none below =
         let z = kind_node l f named k g plain h.fits.legal in
-        absurd (below z.0 z.1 (omega (arith, z.3)) (rw z.2 at h.fits))
+        absurd (below z.0 z.1 z.3 (rw z.2 at h.fits))
+
+-- The operands of the tree whose name was found.
+pub with_name : {k name : ℕ} {t : Code} → (p : ℕ) × (Some name ≡ Some p) × (s : Codes) × (t ≡ node k p s) → (s : Codes) × (t ≡ node k name s)
+with_name {k} {name} {t} h = let z : name ≡ h.0 = let e = h.1 in cc in (h.2, rw z h.3)

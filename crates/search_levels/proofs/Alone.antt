@@ -1,9 +1,13 @@
 -- A code that is an argument alone: it matches any tree, to which the argument is bound.
 use Prim.Native.Nat.{ℕ, zero, suc, ◌+◌, ◌-◌, ◌≤◌, ◌<◌}
 use mathlib.Core.Path.{◌≡◌, refl, ap, ◌∙◌}
-use mathlib.Core.Bool.{true, false}
+use mathlib.Core.Bool.{true, false, not}
 use mathlib.Core.List.{List}
 use native.Mathlib.Omega.{arith}
+use lib.Dec.{eqb}
+use borrow.Author.Tests.{eq-eqb}
+use Rattle.format_fields.proofs.Truth.{false_true}
+use Rattle.std.specs.Prelude.{None, Some}
 use lib.ListN.{length, get_or, set}
 use Rattle.tree_reader.specs.Code.{Code, node, token, argument}
 use Rattle.tree_reader.specs.Syntax.{write, tree, code}
@@ -14,7 +18,6 @@ use Rattle.run_table.specs.Inner.Table.{body_start, body_byte}
 use Rattle.run_table.proofs.Standing.{stands_head}
 use Rattle.search_sources.specs.Inner.Goals.{Goal}
 use Rattle.search_levels.specs.Inner.Clauses.{StepAsks, StepGives, MatchAsks, MatchGives}
-use Rattle.search_levels.proofs.Lying.{some_byte}
 use Rattle.search_levels.proofs.Steps.{argument_new, width_other}
 use Rattle.search_levels.proofs.Turns.{argument_next, number_there, number_is, argument_asks, argument_step, first_differs}
 use Rattle.search_levels.proofs.Whole.{Going, production, the_clause, match_start, match_step, match_stops, match_next, match_done}
@@ -71,7 +74,7 @@ module _ (table target places kinds bytes memory bound : List ℕ) (place clause
 
     pub root_other : MatchGives bytes bound false f k p ks g
     root_other =
-        match_stops table target places kinds bytes memory bound place clause at f k p ks g h bound (clause + 4) root_stop at root_start bound 0
+        match_stops table target places kinds bytes memory bound place clause at f k p ks g h bound (clause + 4) root_stop at root_start bound None
         (first_differs table target places kinds bytes memory bound place (clause + 4) root_stop at f ks _ _ _ _ root_asks sign
         (λ e. other (ap (body_byte table) (let z : clause + 5 ≡ clause + 4 + 1 = omega arith in z) ∙ e))) refl
 
@@ -113,7 +116,7 @@ module _ (table target places kinds bytes memory bound : List ℕ) (place clause
         let b = byte in
         (omega arith, omega arith)
 
-    gives : StepGives table bytes (set bound (m - 1) at) (clause + 4) stop (at + length (write tree subtree)) f ks start.codes start.trees start.so_far
+    gives : StepGives table bytes (set bound (m - 1) at) (clause + 4) stop (Some (at + length (write tree subtree))) f ks start.codes start.trees start.so_far
     gives =
         argument_step table target places kinds bytes memory bound place (clause + 4) stop at f ks _ _ _ _ asks sign byte
         (argument_new target places bytes memory bound _ at (m - 1) f ks _ _
@@ -124,9 +127,9 @@ module _ (table target places kinds bytes memory bound : List ℕ) (place clause
     alone_matches =
         match_done table target places kinds bytes memory bound place clause at f k p ks g h (set bound (m - 1) at) (clause + 4 + 2) stop (at + length (write tree subtree))
         (match_next table target places kinds bytes memory bound place clause at f k p ks g h bound (clause + 4) stop at start (set bound (m - 1) at)
-        (at + length (write tree subtree)) gives past_zero {n = 2} (width_other (body_byte table (clause + 4)) (λ z. omega arith)))
+        (Some (at + length (write tree subtree))) gives _ refl {n = 2} (width_other (body_byte table (clause + 4)) (λ z. omega arith)))
         (let x = ends in omega arith)
-      where
-        past_zero : at + length (write tree subtree) ≡ 0 → ⊥
-        past_zero z =
-            let v = some_byte (argument_next table target places kinds bytes memory bound place (clause + 4) stop at f ks _ _ _ _ asks sign).lies.typed in omega arith
+
+-- The test of two numbers says that they differ.
+pub differ : {a b : ℕ} → not (eqb a b) ≡ true → a ≡ b → ⊥
+differ {a} {b} e q = false_true (rw (eq-eqb a b q) at e)

@@ -1,6 +1,8 @@
 -- Where a legal tree ends: a law for each return of `end_of`.
+use Rattle.std.specs.Prelude.{IsOk, Err, Ok}
+use Rattle.tree_reader.specs.declared.node.ReadError.TheVariants.{Deep, Broken}
 use Prim.Native.Nat.{ℕ, ◌+◌, ◌-◌, ◌≤◌}
-use mathlib.Core.Path.{◌≡◌, sym, ap, ◌∙◌}
+use mathlib.Core.Path.{◌≡◌, refl, sym, ap, ◌∙◌}
 use mathlib.Core.List.{List, []}
 use native.Mathlib.Omega.{arith}
 use lib.ListN.{length, drop, length-drop}
@@ -9,10 +11,8 @@ use Rattle.tree_reader.specs.Code.{Code}
 use Rattle.tree_reader.specs.Syntax as Meant
 use Rattle.tree_reader.specs.Syntax.{write, tree}
 use Rattle.tree_reader.specs.Operations.{tree_levels}
-use Rattle.tree_reader.specs.declared.node.Read.{Read}
-use Rattle.tree_reader.specs.declared.node.Read.TheVariants.{End, Deep, Broken}
 use Rattle.tree_reader.specs.Inner.Index.{Ready}
-use Rattle.tree_reader.specs.Inner.Positions.{EndsBy, rest_at, rest_of, rest, deep, broken}
+use Rattle.tree_reader.specs.Inner.Positions.{EndsBy, rest_at, rest_of, rest, deep, broken, Read}
 use Rattle.tree_reader.proofs.Larger.{apart}
 use Rattle.tree_reader.proofs.Members.{in_below}
 use Rattle.tree_reader.proofs.RoundTrip.{round, as_tree}
@@ -37,7 +37,7 @@ module _ (index s b : List ℕ) (at k : ℕ) (l : Language) (t : Code) (h : Ther
     left : rest_at b f ≡ rest h.lies.rest
     left = ef ∙ ap rest_of read_is
 
-    pub ends_there : (e : ℕ) → f ≡ End e → EndsBy (length b) f → e ≡ at + length (write tree t)
+    pub ends_there : (e : ℕ) → f ≡ Ok e → EndsBy (length b) f → e ≡ at + length (write tree t)
     ends_there e q inside =
         let i : e ≤ length b = rw q at inside in
         let a : drop e b ≡ h.lies.rest = let z : rest (drop e b) ≡ rest h.lies.rest = sym (ap (rest_at b) q) ∙ left in cc in
@@ -47,8 +47,16 @@ module _ (index s b : List ℕ) (at k : ℕ) (l : Language) (t : Code) (h : Ther
         let z : length b - e ≡ length b - (at + length v) = sym (length-drop e b) ∙ (ap length (a ∙ sym d) ∙ length-drop (at + length v) b) in
         omega arith
 
-    pub not_deep : {A : Type 0} → f ≡ Deep → A
+    not_deep : {A : Type 0} → f ≡ (Err Deep) → A
     not_deep q = let y : deep ≡ rest h.lies.rest = sym (ap (rest_at b) q) ∙ left in let z : ◌≡◌ {A = ℕ} 0 1 = cc in absurd (omega arith)
 
-    pub not_broken : {A : Type 0} → f ≡ Broken → A
+    not_broken : {A : Type 0} → f ≡ (Err Broken) → A
     not_broken q = let y : broken ≡ rest h.lies.rest = sym (ap (rest_at b) q) ∙ left in let z : ◌≡◌ {A = ℕ} 0 1 = cc in absurd (omega arith)
+
+    pub some_end : IsOk f
+    some_end = go f refl
+      where
+        go : (x : Read) → f ≡ x → IsOk x
+        go (Ok e) q = refl
+        go (Err Deep) q = not_deep q
+        go (Err Broken) q = not_broken q

@@ -4,6 +4,7 @@ use mathlib.Core.Path.{◌≡◌, refl, ap, sym, ◌∙◌}
 use mathlib.Core.Logic.{◌⊎◌, inl, inr, ⊎_elim}
 use mathlib.Core.List.{List, ◌∷◌}
 use native.Mathlib.Omega.{arith}
+use Rattle.std.specs.Prelude.{Some}
 use lib.ListN.{length, get_or}
 use lib.Seq.{slice}
 use Rattle.format_fields.proofs.Lists.{part_next}
@@ -15,16 +16,15 @@ use Rattle.tree_reader.proofs.Larger.{apart}
 use Rattle.tree_index.specs.Inner.Lying.{Lies, There, Row, Shape, production, value, Opens}
 use Rattle.tree_index.proofs.Rows.{kinds_end, Turn, turn, none_left}
 use Rattle.tree_index.proofs.Walking.{turn_long, turn_end, no_trees}
-use Rattle.search_levels.specs.Inner.Memory.{kept_kind, kept_end, Recalls, nothing, kept, Keeps}
+use Rattle.search_levels.specs.Inner.Memory.{kept_kind, kept_end, Recalls, kept, Keeps}
 use Rattle.search_levels.specs.Inner.Setting.{TrueEnds}
 use Rattle.search_levels.specs.Inner.Ends.{Fills}
 use Rattle.search_levels.proofs.Lying.{lies_one}
 
 -- end_of
-pub end_known : (l : Language) (b memory : List ℕ) (k at r : ℕ) (t : Code) → Lies l b at k t → TrueEnds l b memory → Recalls memory k at r → (r ≡ 0 → ⊥)
+pub end_known : (l : Language) (b memory : List ℕ) (k at r : ℕ) (t : Code) → Lies l b at k t → TrueEnds l b memory → Recalls memory k at (Some r)
     → r ≡ at + length (write tree t)
-end_known l b memory k at r t h q nothing n = absurd (n refl)
-end_known l b memory k at r t h q (kept e d) n = ⊎_elim (λ z. absurd (n (d ∙ z))) (λ z. d ∙ z) (q.is at k t h e)
+end_known l b memory k at r t h q (kept e d n) = ⊎_elim (λ z. absurd (n (d ∙ z))) (λ z. d ∙ z) (q.is at k t h e)
 
 -- keep_end
 ends_kept : (x s b before after : List ℕ) (k at end : ℕ) (l : Language) (u : Code) → There x s b at k l u → end ≡ at + length (write tree u)

@@ -5,6 +5,7 @@ use mathlib.Core.Logic.{◌⊎◌, inl, inr}
 use mathlib.Core.List.{List}
 use native.Mathlib.Omega.{arith}
 use native.Mathlib.Decide.{ℕ_discrete}
+use Rattle.std.specs.Prelude.{None, Some}
 use lib.ListN.{length, get_or, set, length-set}
 use lib.Seq.{get_or-set_same, get_or-set_other}
 use borrow.Author.Tests.{le-leb, lt-leb, eq-eqb, ne_eqb}
@@ -29,23 +30,23 @@ module _ (m : ℕ) {a b v : ℕ} (d : a ≡ v) (f : b ≡ a) where
   e : b ≡ v
   e = f ∙ d
 
-  pub recalled_1 : b ≡ 0 → 255 ≡ recalled m v
+  pub recalled_1 : b ≡ 0 → None ≡ recalled m v
   unfolding recalled
   recalled_1 h = rw (← e, eq-eqb b 0 h)
 
-  pub recalled_2 : (b ≡ 0 → ⊥) → b ≤ 17 → b ≤ m + 1 → b - 1 ≡ recalled m v
+  pub recalled_2 : (b ≡ 0 → ⊥) → b ≤ 17 → b ≤ m + 1 → Some (b - 1) ≡ recalled m v
   unfolding recalled
   recalled_2 h k q = rw (← e, ne_eqb b 0 h, le-leb b 17 k, le-leb b (m + 1) q)
 
-  pub recalled_3 : (b ≡ 0 → ⊥) → b ≤ 17 → m + 1 < b → m + 1 ≡ recalled m v
+  pub recalled_3 : (b ≡ 0 → ⊥) → b ≤ 17 → m + 1 < b → Some (m + 1) ≡ recalled m v
   unfolding recalled
   recalled_3 h k q = rw (← e, ne_eqb b 0 h, le-leb b 17 k, lt-leb b (m + 1) q)
 
-  pub recalled_4 : (b ≡ 0 → ⊥) → 17 < b → m + 18 ≤ b → m + 1 ≡ recalled m v
+  pub recalled_4 : (b ≡ 0 → ⊥) → 17 < b → m + 18 ≤ b → Some (m + 1) ≡ recalled m v
   unfolding recalled
   recalled_4 h k q = rw (← e, ne_eqb b 0 h, lt-leb b 17 k, le-leb (m + 18) b q)
 
-  pub recalled_5 : (b ≡ 0 → ⊥) → 17 < b → b < m + 18 → 255 ≡ recalled m v
+  pub recalled_5 : (b ≡ 0 → ⊥) → 17 < b → b < m + 18 → None ≡ recalled m v
   unfolding recalled
   recalled_5 h k q = rw (← e, ne_eqb b 0 h, lt-leb b 17 k, lt-leb (m + 18) b q)
 
@@ -75,9 +76,9 @@ module _ (memory free : List ℕ) (n k at : ℕ) {b v : ℕ} (e : b ≡ v) where
 -- kept_end
 pub recalls_end : (memory : List ℕ) (k at : ℕ) {a b c d o : ℕ} → a ≡ get_or memory (at * 36) 0 → a / 8 ≡ o → o ≡ k
     → b ≡ get_or memory (at * 36 + 1) 0 → c ≡ get_or memory (at * 36 + 2) 0 → d ≡ get_or memory (at * 36 + 3) 0
-    → Recalls memory k at (a % 8 * 16777216 + (b * 65536 + (c * 256 + d)))
+    → (a % 8 * 16777216 + (b * 65536 + (c * 256 + d)) ≡ 0 → ⊥) → Recalls memory k at (Some (a % 8 * 16777216 + (b * 65536 + (c * 256 + d))))
 unfolding kept_kind kept_end
-recalls_end memory k at {a} {b} {c} {d} ea eo ek eb ec ed = kept {r = a % 8 * 16777216 + (b * 65536 + (c * 256 + d))} (rw (← ea) (eo ∙ ek)) (rw (← ea, ← eb, ← ec, ← ed) refl)
+recalls_end memory k at {a} {b} {c} {d} ea eo ek eb ec ed n = kept {r = a % 8 * 16777216 + (b * 65536 + (c * 256 + d))} (rw (← ea) (eo ∙ ek)) (rw (← ea, ← eb, ← ec, ← ed) refl) n
 
 -- keep_end
 pub keeps_none : (memory : List ℕ) (k at end : ℕ) → Keeps memory memory k at end

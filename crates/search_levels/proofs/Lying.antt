@@ -1,12 +1,13 @@
 -- Trees that lie in the bytes: which one lies where, and equal parts of the bytes.
-use Prim.Native.Nat.{ℕ, zero, suc, ◌+◌, ◌-◌, ◌≤◌, ◌<◌}
-use mathlib.Core.Path.{◌≡◌, refl, ap, sym, ◌∙◌}
-use mathlib.Core.List.{List, [], ◌∷◌, ◌++◌}
+use Prim.Native.Nat.{ℕ, ◌+◌, ◌-◌, ◌≤◌}
+use mathlib.Core.Path.{◌≡◌, ap, sym, ◌∙◌}
+use mathlib.Core.Bool.{Bool, true, false}
+use mathlib.Core.List.{List, [], ◌++◌}
 use native.Mathlib.Omega.{arith}
-use native.Mathlib.Decide.{ℕ_discrete}
-use lib.ListN.{length, get_or, take, drop, take-append-drop}
-use lib.Seq.{get_or-take, get_or-drop}
-use Rattle.format_fields.proofs.Split.{front}
+use lib.Pointwise.{pointwise}
+use Rattle.std.proofs.Common.{nat_eq}
+use Rattle.std.specs.Cmp.Lexicographic.{same_text, other_text}
+use lib.ListN.{length, take, drop, take-append-drop}
 use Rattle.format_language.specs.Language.{Language}
 use Rattle.tree_reader.specs.Code.{Code, levels}
 use Rattle.tree_reader.specs.Typing.{Typed, typed_node, typed_token, typed_argument}
@@ -54,42 +55,11 @@ some_byte (typed_node e h) = omega arith
 some_byte (typed_token e h) = omega arith
 some_byte (typed_argument {i = i} {j = j} e) = no_kind i j e
 
--- same_part: the parts are equal as far as i.
-pub record SameTo (t : List ℕ) (a b i : ℕ) : Type 0 where
-  pub under : (j : ℕ) → j < i → get_or t (a + j) 0 ≡ get_or t (b + j) 0
-
-pub same_start : (t : List ℕ) (a b : ℕ) → SameTo t a b 0
-same_start t a b = record { under = λ j h. absurd (omega arith) }
-
-take_next : (t : List ℕ) (a n : ℕ) → a < length t → take (suc n) (drop a t) ≡ get_or t a 0 ∷ take n (drop (a + 1) t)
-take_next t a n h = ap (take (suc n)) (front t a h)
-
-pub same_end : (t : List ℕ) (n a b : ℕ) → a ≤ b → b + n ≤ length t → SameTo t a b n → take n (drop a t) ≡ take n (drop b t)
-same_end t zero a b h i s = refl
-same_end t (suc n) a b h i s =
-    let e : get_or t a 0 ≡ get_or t b 0 =
-    ap (λ (x : ℕ). get_or t x 0) (let z : a ≡ a + 0 = omega arith in z) ∙ (s.under 0 (omega arith) ∙ ap (λ (x : ℕ). get_or t x 0) (let z : b + 0 ≡ b = omega arith in z)) in
-    let r = same_end t n (a + 1) (b + 1) (omega arith) (omega arith) (record { under = λ j q. shift j q }) in
-    take_next t a n (omega arith) ∙ ((λ x. e x ∷ r x) ∙ sym (take_next t b n (omega arith)))
-  where
-    shift : (j : ℕ) → j < n → get_or t (a + 1 + j) 0 ≡ get_or t (b + 1 + j) 0
-    shift j q =
-        ap (λ (x : ℕ). get_or t x 0) (let z : a + 1 + j ≡ a + suc j = omega arith in z)
-        ∙ (s.under (suc j) (omega arith) ∙ ap (λ (x : ℕ). get_or t x 0) (let z : b + suc j ≡ b + 1 + j = omega arith in z))
-
-pub same_on : (t : List ℕ) (a b i : ℕ) → SameTo t a b i → get_or t (a + i) 0 ≡ get_or t (b + i) 0 → SameTo t a b (i + 1)
-same_on t a b i s e = record { under = λ j q. go j q (ℕ_discrete j i) }
-  where
-    go : (j : ℕ) → j < i + 1 → Dec (j ≡ i) → get_or t (a + j) 0 ≡ get_or t (b + j) 0
-    go j q (yes z) = rw z e
-    go j q (no z) = s.under j (omega arith)
-
-part_byte : (t : List ℕ) (n a i : ℕ) → a + n ≤ length t → i < n → get_or (take n (drop a t)) i 0 ≡ get_or t (a + i) 0
-part_byte t n a i h q = get_or-take n (drop a t) i 0 q ∙ get_or-drop a t i 0
-
-pub differ_at : (t : List ℕ) (n a b i : ℕ) → a ≤ b → b + n ≤ length t → i < n → (get_or t (a + i) 0 ≡ get_or t (b + i) 0 → ⊥) → take n (drop a t) ≡ take n (drop b t) → ⊥
-differ_at t n a b i h g q d e =
-    d (sym (part_byte t n a i (omega arith) q) ∙ (ap (λ (s : List ℕ). get_or s i 0) e ∙ part_byte t n b i g q))
-
-pub same_to_end : (t : List ℕ) (a b i n : ℕ) → SameTo t a b i → n ≤ i → SameTo t a b n
-same_to_end t a b i n s h = record { under = λ j q. s.under j (omega arith) }
+-- same_part
+pub part_same : (t : List ℕ) (a b n : ℕ) {r : Bool} → r ≡ pointwise nat_eq (take (a + n - a) (drop a t)) (take (b + n - b) (drop b t))
+    → (r ≡ true → take n (drop a t) ≡ take n (drop b t)) × (r ≡ false → take n (drop a t) ≡ take n (drop b t) → ⊥)
+part_same t a b n e =
+    let x : a + n - a ≡ n = omega arith in
+    let y : b + n - b ≡ n = omega arith in
+    let q = rw (x, y) at e in
+    (λ h. same_text _ _ (sym h ∙ q), λ h. other_text _ _ (sym h ∙ q))

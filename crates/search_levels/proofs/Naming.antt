@@ -5,6 +5,7 @@ use mathlib.Core.Logic.{◌⊎◌, inl, inr, ⊎_elim}
 use mathlib.Core.Bool.{true}
 use mathlib.Core.List.{List, [], ◌∷◌, ◌++◌}
 use native.Mathlib.Omega.{arith}
+use Rattle.std.specs.Prelude.{Option as Maybe, None, Some}
 use native.Mathlib.Decide.{dec_le}
 use lib.Dec.{eqb, leb}
 use lib.ListN.{length, get_or}
@@ -19,7 +20,7 @@ use Rattle.format_language.specs.Inner.Entries.{entry_whole, IsClass, IsProducti
 use Rattle.format_language.proofs.Facts.{entry_facts, entry_kind}
 use Rattle.tree_reader.proofs.Placed.{place_of, puts_place}
 use Rattle.tree_reader.proofs.Indexed.{production_key_lem}
-use Rattle.search_levels.specs.Inner.Setting.{Filed, Unnamed, Named}
+use Rattle.search_levels.specs.Inner.Setting.{Filed, Unnamed, Named, IsNamed, up_to}
 
 -- The place of a key is that of an entry that has it.
 place_in : (s : List ℕ) (j : ℕ) (l : List ℕ) → 0 < place_of 0x11 s j l → (x : ℕ) × (place_of 0x11 s j l ≡ x + 1) × (slot_at 0x11 s x ≡ j) × Mem x l
@@ -221,14 +222,10 @@ module _ (table s : List ℕ) (h : Filed table s) where
           let q : place ≡ field + 1 = e ∙ place_is in
           let n : pair_at s place ≡ pair_at s (field + 1) = ap (pair_at s) q in omega arith
 
-      pub none_behind : length s ≤ next → (256 ≤ 256) × Named table k 256 × Unnamed table k (p + 1) 256
-      none_behind past = (
-        omega arith,
-        record { there = λ z. absurd (omega arith) },
-        record {
-          none = λ q i o. between field field_in (production_key k q) (let z = field_key in omega arith) (λ z. let w = next_is in absurd (omega arith)) (omega arith);
-        },
-      )
+      pub none_behind : length s ≤ next → Unnamed table k (p + 1) 256
+      none_behind past = record {
+        none = λ q i o. between field field_in (production_key k q) (let z = field_key in omega arith) (λ z. let w = next_is in absurd (omega arith)) (omega arith);
+      }
 
       module _ (more : next < length s) where
         more_too : field_end s field < length s
@@ -246,20 +243,15 @@ module _ (table s : List ℕ) (h : Filed table s) where
         pub next_inside : next + 4 < length s
         next_inside = rw next_is (entry_kind s (field_end s field) (behind_whole field field_in more_too)).0
 
-        pub other_behind : {r : ℕ} → r ≡ get_or s (next + 3) 0 → (r ≡ k → ⊥) → (256 ≤ 256) × Named table k 256 × Unnamed table k (p + 1) 256
+        pub other_behind : {r : ℕ} → r ≡ get_or s (next + 3) 0 → (r ≡ k → ⊥) → Unnamed table k (p + 1) 256
         other_behind {r} er n =
             let a = field_key in
             let b = key_is in
             let c = behind_higher field field_in more_too in
-            let v = h.narrow (next + 4) in (
-              omega arith,
-              record { there = λ z. absurd (omega arith) },
-              record {
-                none = λ q i o. between field field_in (production_key k q) (omega arith) (λ z. omega arith) (omega arith);
-              },
-            )
+            let v = h.narrow (next + 4) in
+            record { none = λ q i o. between field field_in (production_key k q) (omega arith) (λ z. omega arith) (omega arith) }
 
-        pub next_behind : {r m : ℕ} → r ≡ get_or s (next + 3) 0 → r ≡ k → m ≡ get_or s (next + 4) 0 → (p < m) × (m ≤ 256) × Named table k m × Unnamed table k (p + 1) m
+        pub next_behind : {r m : ℕ} → r ≡ get_or s (next + 3) 0 → r ≡ k → m ≡ get_or s (next + 4) 0 → (p < m) × IsNamed table k (Some m) × Unnamed table k (p + 1) m
         next_behind {r} {m} er ek em =
             let a = field_key in
             let b = key_is in
@@ -269,8 +261,7 @@ module _ (table s : List ℕ) (h : Filed table s) where
             let g : get_or table (production_key k m) 0 ≡ field_end s field + 1 =
             ap (λ (j : ℕ). get_or table j 0) (sym u) ∙ behind_place field field_in more_too (omega arith) in (
               omega arith,
-              omega arith,
-              record { there = λ z. omega arith },
+              (omega arith, record { there = λ z. omega arith }),
               record {
                 none = λ q i o. between field field_in (production_key k q) (omega arith) (λ z. omega arith) (omega arith);
               },
@@ -290,8 +281,12 @@ module _ (table : List ℕ) (k from : ℕ) where
           let q : p ≡ next = omega arith in
           ap (λ (x : ℕ). get_or table (production_key k x) 0) q ∙ (ap (λ (x : ℕ). get_or table x 0) (sym d) ∙ (sym e ∙ z))
 
+  pub unnamed_all : (name : ℕ) → 256 ≤ name → Unnamed table k from name → Unnamed table k from 256
+  unnamed_all name h a = record { none = λ p i o. a.none p i (omega arith) }
+
 pub named_there : (table : List ℕ) (k p : ℕ) {r j : ℕ} → r ≡ get_or table j 0 → j ≡ production_key k p → (r ≡ 0 → ⊥) → Named table k p
 named_there table k p e d n = record { there = λ z. let y = e ∙ ap (λ (x : ℕ). get_or table x 0) d in omega arith }
 
-pub named_none : (table : List ℕ) (k p : ℕ) → 256 ≤ p → Named table k p
-named_none table k p h = record { there = λ z. absurd (omega arith) }
+pub up_to_few : (table : List ℕ) (k : ℕ) (r : Maybe ℕ) → IsNamed table k r → up_to r ≤ 256
+up_to_few table k None h = omega arith
+up_to_few table k (Some p) h = omega (arith, h.0)

@@ -6,6 +6,7 @@ use mathlib.Core.Bool.{Bool, true, false, cond}
 use mathlib.Core.List.{List, [], ◌∷◌}
 use mathlib.Core.Option.{none, some}
 use native.Mathlib.Omega.{arith}
+use Rattle.std.specs.Prelude.{Some}
 use native.Mathlib.Decide.{dec_le}
 use lib.ListN.{length, get_or, drop, drop_of_length-le, replicate, get_or-replicate}
 use borrow.Author.Tests.{le-leb, lt-leb}
@@ -80,9 +81,8 @@ module _ (table source target places kinds bytes memory free : List ℕ) (k at :
   pub target_apart : Apart f.target
   target_apart = apart f.target h.setting.targeted.target_index.apart
 
-  pub recall_true : (m : ℕ) → m ≤ 16 → {r : ℕ} → r ≡ recalled m (byte_for memory free (length bytes) k at) → (r ≡ 255 → ⊥) → Needs l clauses m k g r
-  recall_true m few e n =
-      rw e (recall_needs m _ few (byte_says f bytes memory free k at h.kind h.truthful g h.asked) (λ z. n (e ∙ z)))
+  pub recall_true : (m : ℕ) → m ≤ 16 → {r : ℕ} → Some r ≡ recalled m (byte_for memory free (length bytes) k at) → Needs l clauses m k g r
+  recall_true m few {r} e = recall_needs m _ few (byte_says f bytes memory free k at h.kind h.truthful g h.asked) r (sym e)
 
   -- A class.
   module _ (class : ℕ) (place : class ≡ get_or table k 0) where
@@ -136,11 +136,10 @@ module _ (table source target places kinds bytes memory free : List ℕ) (k at :
     pub zero_levels : m ≡ 0 → Needs l clauses m k g 1
     zero_levels e = rw e (needs_zero l clauses h.setting.named k g none_class)
 
-    pub all_names : (m ≡ 0 → ⊥) → (best : ℕ) (n : ℕ) → 256 ≤ n → n ≤ 256 → NeedsNamed l clauses (m - 1) k 0 n g best → Needs l clauses m k g (best + 1)
-    all_names e best n x y q =
+    pub all_names : (m ≡ 0 → ⊥) → (best : ℕ) (n : ℕ) → n ≡ 256 → NeedsNamed l clauses (m - 1) k 0 n g best → Needs l clauses m k g (best + 1)
+    all_names e best n c q =
         let a : suc (m - 1) ≡ m = omega arith in
         let b : best + 1 ≡ suc best = omega arith in
-        let c : n ≡ 256 = omega arith in
         rw (← a, b) (needs_kind l clauses h.setting.named k g none_class (m - 1) best (rw c at q))
 
   pub without : (low high : ℕ) → high ≤ 256 → Unnamed table k low high → Without l clauses k g low high

@@ -4,6 +4,7 @@ use mathlib.Core.Path.{◌≡◌, refl, ap, sym, ◌∙◌}
 use mathlib.Core.List.{List}
 use mathlib.Core.Option.{none, some}
 use native.Mathlib.Omega.{arith}
+use Rattle.std.specs.Prelude.{None, Some}
 use native.Mathlib.Decide.{ℕ_discrete}
 use lib.ListN.{length, get_or, set, take, drop, length-set}
 use lib.Seq.{get_or-set_same, get_or-set_other}
@@ -81,10 +82,10 @@ module _ (target places bytes memory bound : List ℕ) (kind to i : ℕ) (f : Tr
         within j w q (yes z) = rw z h.number
         within j w q (no z) = h.is.inside j w (sym (bind_other b i u nil nil j z) ∙ q)
 
-    pub argument_new : (e : ℕ) → e ≡ to + length (write tree u) → ArgumentGives bytes (set bound i to) to i e f ks b u
+    pub argument_new : (e : ℕ) → e ≡ to + length (write tree u) → ArgumentGives bytes (set bound i to) to i (Some e) f ks b u
     argument_new e d = record {
-      goes = λ n. (d, bind i u b, newly e d, λ cs us. step_new b i u cs us unbound);
-      stops = λ z. let v = some_byte h.lies.typed in absurd (omega arith);
+      goes = λ x n. let z : x ≡ to + length (write tree u) = cc in (z, bind i u b, newly x z, λ cs us. step_new b i u cs us unbound);
+      stops = λ z. absurd cc;
     }
 
   -- The argument has come before.
@@ -102,21 +103,21 @@ module _ (target places bytes memory bound : List ℕ) (kind to i : ℕ) (f : Tr
     later e d = record { long = h.is.long; at = h.is.at; before = λ j w q. let z = h.is.before j w q in omega arith; inside = h.is.inside }
 
     pub argument_same : (e : ℕ) → e ≡ to + length (write tree u) → take (e - to) (drop (get_or bound i 0) bytes) ≡ take (e - to) (drop to bytes)
-        → ArgumentGives bytes bound to i e f ks b u
+        → ArgumentGives bytes bound to i (Some e) f ks b u
     argument_same e d q =
         let n : e - to ≡ length (write tree u) = omega arith in
         let z : earlier.0 ≡ u = same_tree f.target target_apart bytes (mapped f.body (get_or ks i 0) 0) (get_or bound i 0) to earlier.0 u earlier.2 lies_kind (rw n at q) in
         record {
-          goes = λ x. (d, b, later e d, λ cs us. step_known b i u cs us (earlier.1 ∙ ap some z));
-          stops = λ x. let v = some_byte h.lies.typed in absurd (omega arith);
+          goes = λ x m. let y : x ≡ to + length (write tree u) = cc in (y, b, later x y, λ cs us. step_known b i u cs us (earlier.1 ∙ ap some z));
+          stops = λ x. absurd cc;
         }
 
     pub argument_other : (e : ℕ) → e ≡ to + length (write tree u) → (take (e - to) (drop (get_or bound i 0) bytes) ≡ take (e - to) (drop to bytes) → ⊥)
-        → ArgumentGives bytes bound to i 0 f ks b u
+        → ArgumentGives bytes bound to i None f ks b u
     argument_other e d q =
         let n : e - to ≡ length (write tree u) = omega arith in
         record {
-          goes = λ x. absurd (x refl);
+          goes = λ x m. absurd cc;
           stops = λ x cs us s y.
               no_known b i u cs us earlier.0 earlier.1
               (λ z. q (rw n (tree_same f.target target_apart bytes (mapped f.body (get_or ks i 0) 0) (get_or bound i 0) to earlier.0 u earlier.2 lies_kind z))) s y;

@@ -1,11 +1,12 @@
 -- A step of the match: a law for each return of `step` and `matches`.
 use Prim.Native.Nat.{ℕ, zero, suc, ◌+◌, ◌-◌, ◌≤◌, ◌<◌}
-use mathlib.Core.Path.{◌≡◌, refl, ap, sym, ◌∙◌}
+use mathlib.Core.Path.{◌≡◌, ap, sym, ◌∙◌}
 use mathlib.Core.Logic.{◌⊎◌, inl, inr}
 use mathlib.Core.List.{List, [], ◌∷◌, map}
 use mathlib.Core.Option
 use mathlib.Core.Option.{Option, some}
 use native.Mathlib.Omega.{arith}
+use Rattle.std.specs.Prelude.{Option as Maybe, None, Some}
 use lib.ListN.{length, get_or, get_elem?}
 use Rattle.format_fields.proofs.Truth.{none_some}
 use Rattle.tree_reader.specs.Code.{Codes}
@@ -118,7 +119,7 @@ module _ (table target places kinds bytes memory bound : List ℕ) (place c stop
           lies = rw (k ∙ sym number_there.1) argument_next.lies;
         })
 
-    pub argument_step : {m r : ℕ} {after : List ℕ} → m ≡ body_byte table (c + 1)
+    pub argument_step : {m : ℕ} {r : Maybe ℕ} {after : List ℕ} → m ≡ body_byte table (c + 1)
         → ArgumentGives bytes after to (m - 1) r f ks b argument_next.subtree → StepGives table bytes after c stop r f ks cs us b
     argument_step {m} {r} {after} e g = go (rw (number_is e) at g)
       where
@@ -127,8 +128,8 @@ module _ (table target places kinds bytes memory bound : List ℕ) (place c stop
 
         go : ArgumentGives bytes after to argument_next.number r f ks b argument_next.subtree → StepGives table bytes after c stop r f ks cs us b
         go q = record {
-          goes = λ n.
-              let z = q.goes n in (
+          goes = λ x n.
+              let z = q.goes x n in (
                 argument_next.kinds,
                 argument_next.codes,
                 argument_next.trees,
@@ -142,8 +143,8 @@ module _ (table target places kinds bytes memory bound : List ℕ) (place c stop
 
   -- A name, or the first byte of a token, that differs.
   module _ (plain : body_byte table c ≡ 3 → ⊥) where
-    pub first_differs : (body_byte table (c + 1) ≡ get_or bytes to 0 → ⊥) → StepGives table bytes bound c stop 0 f ks cs us b
-    first_differs d = record { goes = λ n. absurd (n refl); stops = λ n s y. go s y view }
+    pub first_differs : (body_byte table (c + 1) ≡ get_or bytes to 0 → ⊥) → StepGives table bytes bound c stop None f ks cs us b
+    first_differs d = record { goes = λ e n. absurd cc; stops = λ n s y. go s y view }
       where
         go : (s : Replacing) → Solves b cs us s → View → ⊥
         go s y (inl n) = n.other d s y
@@ -154,8 +155,8 @@ module _ (table target places kinds bytes memory bound : List ℕ) (place c stop
     later r i = record { long = h.is.long; at = h.is.at; before = λ j w q. let z = h.is.before j w q in omega arith; inside = h.is.inside }
 
     module _ (first : body_byte table (c + 1) ≡ get_or bytes to 0) where
-      pub name_step : (body_byte table c ≡ 2 → ⊥) → StepGives table bytes bound c stop (to + 1) f ks cs us b
-      name_step other = record { goes = λ n. go view; stops = λ n. absurd (omega arith) }
+      pub name_step : (body_byte table c ≡ 2 → ⊥) → StepGives table bytes bound c stop (Some (to + 1)) f ks cs us b
+      name_step other = record { goes = λ e n. let z : e ≡ to + 1 = cc in rw z (go view); stops = λ n. absurd cc }
         where
           wide : c + 2 ≡ c + width (body_byte table c)
           wide = ap (λ (n : ℕ). c + n) (width_other (body_byte table c) other)
@@ -175,16 +176,16 @@ module _ (table target places kinds bytes memory bound : List ℕ) (place c stop
             go x (inr (inl n)) = let y = n.room in omega arith
             go x (inr (inr n)) = let y = n.sign in absurd (omega arith)
 
-        pub second_differs : (body_byte table (c + 2) ≡ get_or bytes (to + 1) 0 → ⊥) → StepGives table bytes bound c stop 0 f ks cs us b
-        second_differs d = record { goes = λ n. absurd (n refl); stops = λ n s y. go s y view }
+        pub second_differs : (body_byte table (c + 2) ≡ get_or bytes (to + 1) 0 → ⊥) → StepGives table bytes bound c stop None f ks cs us b
+        second_differs d = record { goes = λ e n. absurd cc; stops = λ n s y. go s y view }
           where
             go : (s : Replacing) → Solves b cs us s → View → ⊥
             go s y (inl n) = let z = n.sign in omega arith
             go s y (inr (inl n)) = n.low d s y
             go s y (inr (inr n)) = plain n.sign
 
-        pub token_step : body_byte table (c + 2) ≡ get_or bytes (to + 1) 0 → StepGives table bytes bound c stop (to + 2) f ks cs us b
-        token_step second = record { goes = λ n. go view; stops = λ n. absurd (omega arith) }
+        pub token_step : body_byte table (c + 2) ≡ get_or bytes (to + 1) 0 → StepGives table bytes bound c stop (Some (to + 2)) f ks cs us b
+        token_step second = record { goes = λ e n. let z : e ≡ to + 2 = cc in rw z (go view); stops = λ n. absurd cc }
           where
             wide : c + 3 ≡ c + width (body_byte table c)
             wide = ap (λ (n : ℕ). c + n) (width_token (body_byte table c) token)

@@ -1,10 +1,11 @@
 -- The match of a whole clause: a law for each return and turn of `matches`.
-use Prim.Native.Nat.{ℕ, zero, suc, ◌+◌, ◌-◌, ◌≤◌, ◌<◌}
+use Prim.Native.Nat.{ℕ, zero, suc, ◌+◌, ◌≤◌, ◌<◌}
 use mathlib.Core.Path.{◌≡◌, refl, ap, sym, ◌∙◌}
 use mathlib.Core.Bool.{true, false}
 use mathlib.Core.List.{List, [], ◌∷◌, ◌++◌, map, append-nil}
 use mathlib.Core.Option.{none, some}
 use native.Mathlib.Omega.{arith}
+use Rattle.std.specs.Prelude.{Option, None, Some}
 use lib.ListN.{length}
 use Rattle.format_fields.specs.Lists.{all}
 use Rattle.format_fields.proofs.Truth.{none_some, false_true, both_and, is_some_lem}
@@ -121,8 +122,8 @@ module _ (table target places kinds bytes memory bound : List ℕ) (place clause
     pub match_step : c < stop → StepAsks table target places kinds bytes memory now place c stop to f ks w.kinds w.codes w.trees w.so_far
     match_step more = record { targeted = h.targeted; ends = h.ends; production = production; row = w.row; is = w.is; more = more }
 
-    module _ (after : List ℕ) (r : ℕ) (s : StepGives table bytes after c stop r f ks w.codes w.trees w.so_far) where
-      pub match_stops : r ≡ 0 → MatchGives bytes after false f k p ks g
+    module _ (after : List ℕ) (r : Option ℕ) (s : StepGives table bytes after c stop r f ks w.codes w.trees w.so_far) where
+      pub match_stops : r ≡ None → MatchGives bytes after false f k p ks g
       match_stops e = record {
         holds = λ z. false_true z;
         fails = λ z t q m.
@@ -133,9 +134,9 @@ module _ (table target places kinds bytes memory bound : List ℕ) (place clause
           meets_of : (x y : Goal) (t : Code) → x ≡ y → Meets (clauses_of f) x t → Meets (clauses_of f) y t
           meets_of x y t e q = rw e at q
 
-      pub match_next : (r ≡ 0 → ⊥) → {n : ℕ} → n ≡ width (body_byte table c) → Going table bytes after (c + n) stop r f k p ks g
-      match_next e {n} d =
-          let z = s.goes e in
+      pub match_next : (e : ℕ) → r ≡ Some e → {n : ℕ} → n ≡ width (body_byte table c) → Going table bytes after (c + n) stop e f k p ks g
+      match_next e q {n} d =
+          let z = s.goes e q in
           record {
             goal = w.goal;
             goal_is = w.goal_is;

@@ -5,10 +5,12 @@ ghost use Rattle.tree_reader.specs.Code.{Code, Codes};
 ghost use Rattle.format_translation.specs.Translation.{Translation};
 ghost use Rattle.search_sources.specs.Inner.Goals.{Goal};
 ghost use Rattle.run_table.specs.Inner.Table.{body_byte};
-ghost use Rattle.search_levels.specs.Inner.Clauses.{ArgumentAsks, ArgumentGives, width, StepAsks, StepGives, MatchAsks, MatchGives};
+ghost use Rattle.search_levels.specs.Inner.Clauses.{ArgumentGives, width, StepGives, MatchAsks, MatchGives};
+ghost use Rattle.search_levels.specs.Inner.Searching.{ArgumentAsksIn, StepAsksIn, MatchAsksIn};
 
 use crate::ends::end_of;
-use format_fields::bytes::{byte_at, to_usize};
+use crate::searched::Searched;
+use format_fields::bytes::byte_at;
 use run_table::table::{body_at, clause_end, source_at};
 use tree_reader::index::TABLE;
 
@@ -29,86 +31,73 @@ fn same_part(tree: &[u8], a: usize, b: usize, n: usize) -> bool
     ensures { (result ≡ true → take n (drop a tree.now) ≡ take n (drop b tree.now))
         × (result ≡ false → take n (drop a tree.now) ≡ take n (drop b tree.now) → ⊥) }
 {
-    let mut i = 0;
-    while i < n {
-        if tree[a + i] != tree[b + i] {
-            return false;
-        }
-        i += 1;
-    }
-    true
+    tree[a..a + n] == tree[b..b + n]
 }
 
-// Where the tree ends that lies at `to`, where argument i comes, counted from 0; 0 where it is bound to another tree.
+// Where the tree ends that lies at `to`, where argument i comes, counted from 0; none where it is bound to another tree.
 fn argument(
-    target: &[u8],
-    places: &[u16],
-    tree: &[u8],
+    searched: &Searched,
     memory: &[u8],
     kind: u8,
     to: usize,
     bound: &mut [usize; 8],
     i: usize,
-) -> usize
-    requires { (f : Translation) × (ks : List ℕ) × (b : ℕ → Goal) × (u : Code) × ArgumentAsks target.now places.now tree.now memory.now bound.old kind to i f ks b u }
-    ensures { (f : Translation) (ks : List ℕ) (b : ℕ → Goal) (u : Code) → ArgumentAsks target.now places.now tree.now memory.now bound.old kind to i f ks b u
-        → ArgumentGives tree.now bound.new to i result f ks b u }
+) -> Option<usize>
+    requires { (f : Translation) × (ks : List ℕ) × (b : ℕ → Goal) × (u : Code) × ArgumentAsksIn searched.now memory.now bound.old kind to i f ks b u }
+    ensures { (f : Translation) (ks : List ℕ) (b : ℕ → Goal) (u : Code) → ArgumentAsksIn searched.now memory.now bound.old kind to i f ks b u
+        → ArgumentGives searched.now.tree.now bound.new to i result f ks b u }
 {
-    let end = end_of(target, places, kind, tree, memory, to);
+    let tree = searched.tree;
+    let end = end_of(searched.target, searched.places, kind, tree, memory, to);
     let start = bound[i];
     if tree.len() <= start {
         bound[i] = to;
-        return end;
+        return Some(end);
     }
     if same_part(tree, start, to, end - to) {
-        return end;
+        return Some(end);
     }
-    0
+    None
 }
 
 // How many bytes of the code stand for one step.
 fn width_of(sign: usize) -> usize
     ensures { (result ≡ width sign) × (2 ≤ result) × (result ≤ 3) }
 {
-    if sign == TOKEN {
-        return 3;
-    }
-    2
+    if sign == TOKEN { 3 } else { 2 }
 }
 
-// Where the next code's bytes in the tree end: the tree goes on at `to`, the code at c of the body. 0 where they differ.
+// Where the next code's bytes in the tree end: the tree goes on at `to`, the code at c of the body. None where they differ.
 fn step(
-    table: &[u16; TABLE],
-    target: &[u8],
-    places: &[u16],
-    kinds: &[u8],
-    tree: &[u8],
+    searched: &Searched,
     memory: &[u8],
     place: usize,
     c: usize,
     to: usize,
     bound: &mut [usize; 8],
-) -> usize
-    requires { (stop : ℕ) × (f : Translation) × (ks js : List ℕ) × (cs us : Codes) × (b : ℕ → Goal) × StepAsks table.now target.now places.now kinds.now tree.now memory.now bound.old place c stop to f ks js cs us b }
-    ensures { (stop : ℕ) (f : Translation) (ks js : List ℕ) (cs us : Codes) (b : ℕ → Goal) → StepAsks table.now target.now places.now kinds.now tree.now memory.now bound.old place c stop to f ks js cs us b
-        → StepGives table.now tree.now bound.new c stop result f ks cs us b }
+) -> Option<usize>
+    requires { (stop : ℕ) × (f : Translation) × (ks js : List ℕ) × (cs us : Codes) × (b : ℕ → Goal) × StepAsksIn searched.now memory.now bound.old place c stop to f ks js cs us b }
+    ensures { (stop : ℕ) (f : Translation) (ks js : List ℕ) (cs us : Codes) (b : ℕ → Goal) → StepAsksIn searched.now memory.now bound.old place c stop to f ks js cs us b
+        → StepGives searched.now.table.now searched.now.tree.now bound.new c stop result f ks cs us b }
 {
+    let table = searched.table;
+    let tree = searched.tree;
     let sign = body_at(table, c);
     if sign == ARGUMENT {
         let i = body_at(table, c + 1) - 1;
-        let kind = byte_at(kinds, source_at(table, place + 4 + i));
-        return argument(target, places, tree, memory, kind, to, bound, i);
+        let kind = byte_at(searched.kinds, source_at(table, place + 4 + i));
+        return argument(searched, memory, kind, to, bound, i);
     }
-    if to_usize(byte_at(tree, to)) != body_at(table, c + 1) {
-        return 0;
+    if usize::from(byte_at(tree, to)) != body_at(table, c + 1) {
+        return None;
     }
     if sign != TOKEN {
-        return to + 1;
+        return Some(to + 1);
     }
-    if to_usize(byte_at(tree, to + 1)) != body_at(table, c + 2) {
-        return 0;
+    if usize::from(byte_at(tree, to + 1)) != body_at(table, c + 2) {
+        return None;
     }
-    to + 2
+    Some(to + 2)
 }
 
 // Whether the root of a clause's code is another than what stands at a position: another name, or another first byte of a token.
@@ -123,31 +112,25 @@ pub fn root_differs(table: &[u16; TABLE], tree: &[u8], clause: usize, at: usize)
     if body_at(table, clause + CODE) == ARGUMENT {
         return false;
     }
-    if to_usize(tree[at]) != body_at(table, clause + NEXT) {
-        return true;
-    }
-    false
+    usize::from(tree[at]) != body_at(table, clause + NEXT)
 }
 
 // Whether the clause of a production matches what is asked at a position; its arguments are bound to what they come at. A code
 // that is an argument alone is bound to the whole tree there.
 pub fn matches(
-    table: &[u16; TABLE],
-    target: &[u8],
-    places: &[u16],
-    kinds: &[u8],
-    tree: &[u8],
+    searched: &Searched,
     memory: &[u8],
     place: usize,
     clause: usize,
     at: usize,
     bound: &mut [usize; 8],
 ) -> bool
-    requires { (f : Translation) × (k p : ℕ) × (ks : List ℕ) × (g : Goal) × MatchAsks table.now target.now places.now kinds.now tree.now memory.now bound.old place clause at f k p ks g }
-    ensures { (f : Translation) (k p : ℕ) (ks : List ℕ) (g : Goal) → MatchAsks table.now target.now places.now kinds.now tree.now memory.now bound.old place clause at f k p ks g
-        → MatchGives tree.now bound.new result f k p ks g }
+    requires { (f : Translation) × (k p : ℕ) × (ks : List ℕ) × (g : Goal) × MatchAsksIn searched.now memory.now bound.old place clause at f k p ks g }
+    ensures { (f : Translation) (k p : ℕ) (ks : List ℕ) (g : Goal) → MatchAsksIn searched.now memory.now bound.old place clause at f k p ks g
+        → MatchGives searched.now.tree.now bound.new result f k p ks g }
 {
-    if tree.len() <= at {
+    let table = searched.table;
+    if searched.tree.len() <= at {
         return true;
     }
     if body_at(table, clause + CODE) == ARGUMENT {
@@ -158,12 +141,9 @@ pub fn matches(
     let mut c = clause + CODE;
     let mut to = at;
     while c < stop {
-        let end = step(
-            table, target, places, kinds, tree, memory, place, c, to, bound,
-        );
-        if end == 0 {
+        let Some(end) = step(searched, memory, place, c, to, bound) else {
             return false;
-        }
+        };
         to = end;
         c += width_of(body_at(table, c));
     }

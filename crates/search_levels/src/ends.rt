@@ -10,23 +10,18 @@ ghost use Rattle.search_levels.specs.Inner.Ends.{Fills};
 
 use crate::memory::{keep_end, kept_end};
 use tree_index::operands::{OperandsAt, operands_at};
-use tree_reader::node::Read;
 use tree_reader::read::read_tree;
 
 // The most levels of a tree that was accepted.
 pub const TREE_LEVELS: usize = 64;
 
-// Where the tree of a kind ends that starts at a position, by reading it.
+// Where the tree of a kind ends that starts at a position, by reading it: it is legal, so this does not fail.
 fn read_end(language: &[u8], places: &[u16], kind: u8, tree: &[u8], at: usize) -> usize
     requires { (l : Language) × (t : Code) × There places.now language.now tree.now at kind l t }
     ensures { (l : Language) (t : Code) → There places.now language.now tree.now at kind l t
         → result ≡ at + length (write inTrees t) }
 {
-    match read_tree(language, places, kind, tree, at, TREE_LEVELS) {
-        Read::End(e) => e,
-        Read::Deep => at,
-        Read::Broken => at,
-    }
+    read_tree(language, places, kind, tree, at, TREE_LEVELS).unwrap()
 }
 
 // The same, where it is not kept.
@@ -42,8 +37,7 @@ pub fn end_of(
     ensures { (l : Language) (t : Code) → There places.now language.now tree.now at kind l t → TrueEnds l tree.now memory.now
         → result ≡ at + length (write inTrees t) }
 {
-    let known = kept_end(memory, kind, at);
-    if known != 0 {
+    if let Some(known) = kept_end(memory, kind, at) {
         return known;
     }
     read_end(language, places, kind, tree, at)
@@ -63,12 +57,10 @@ pub fn keep_ends(
     ensures { (l : Language) (ts : Codes) → Row places.now language.now tree.now operands.start operands.first operands.last l ts
         → Fills l tree.now memory.old memory.new (operands.start + length (write_all inTrees ts)) result }
 {
-    let mut q = operands.first;
     let mut to = operands.start;
-    while q < operands.last {
+    for q in operands.first..operands.last {
         let kind = language[q];
         let inner = operands_at(language, places, kind, tree, to);
-        q += 1;
         if inner.last <= inner.first {
             keep_end(memory, kind, to, inner.start);
             to = inner.start;

@@ -6,16 +6,17 @@ ghost use Rattle.format_translation.specs.Translation.{Translation};
 ghost use Rattle.format_translation.specs.Running.{clauses_of};
 ghost use Rattle.search_sources.specs.Inner.Goals.{Goal};
 ghost use Rattle.search_sources.specs.Inner.Levels.{Needs as NeedsLevels, NeedsAll, NeedsNamed};
-ghost use Rattle.search_levels.specs.Inner.Setting.{Truthful, Named, value_at, Seeks, SeeksAll};
+ghost use Rattle.search_levels.specs.Inner.Setting.{Truthful, Named, value_at};
+ghost use Rattle.search_levels.specs.Inner.Searching.{SeeksIn, SeeksAllIn};
 
 use crate::clause::matches;
-use crate::memory::{UNKNOWN, keep, recall};
+use crate::memory::{keep, recall};
 use crate::names::{first_name, next_name};
+use crate::searched::Searched;
 use format_fields::bytes::{pair_at, pair_in};
 use format_language::range::in_range;
 use run_table::table::{clause_at, index_at, source_at};
-use tree_reader::index::TABLE;
-use tree_reader::operands::{NAMES, first_operand, production_key};
+use tree_reader::operands::{first_operand, production_key};
 
 // The value of the token of a class at a position: its lowest where nothing is asked.
 pub fn token_value(source: &[u8], class: usize, tree: &[u8], at: usize) -> usize
@@ -47,47 +48,29 @@ pub struct Sought {
     pub levels: usize,
 }
 
-// The larger of two numbers.
-fn larger(a: usize, b: usize) -> usize
-    ensures { result ≡ max a b }
-{
-    if a < b { b } else { a }
-}
-
 // The levels that operands of a production need, whose field in the source has its length at `place`: the most that one of
 // them does, where m count; m + 1 at the first that needs more.
 #[cycle(name_need_need_operands_need)]
 fn operands_need(
-    table: &[u16; TABLE],
-    source: &[u8],
-    target: &[u8],
-    places: &[u16],
-    kinds: &[u8],
-    tree: &[u8],
+    searched: &Searched,
     memory: &mut [u8],
     free: &mut [u8],
     place: usize,
     bound: &[usize; 8],
     m: usize,
 ) -> usize
-    requires { (m ≤ 16) × ((f : Translation) × (ks : List ℕ) × (b : ℕ → Goal) × SeeksAll table.now source.now target.now places.now kinds.now tree.now memory.old free.old bound.now place f ks b) }
+    requires { (m ≤ 16) × ((f : Translation) × (ks : List ℕ) × (b : ℕ → Goal) × SeeksAllIn searched.now memory.old free.old bound.now place f ks b) }
     ensures { (result ≤ suc m) × (length memory.new ≡ length memory.old) × (length free.new ≡ length free.old)
-        × ((f : Translation) (ks : List ℕ) (b : ℕ → Goal) → SeeksAll table.now source.now target.now places.now kinds.now tree.now memory.old free.old bound.now place f ks b
-        → NeedsAll f.source (clauses_of f) m ks b result × Truthful f tree.now memory.new free.new) }
+        × ((f : Translation) (ks : List ℕ) (b : ℕ → Goal) → SeeksAllIn searched.now memory.old free.old bound.now place f ks b
+        → NeedsAll f.source (clauses_of f) m ks b result × Truthful f searched.now.tree.now memory.new free.new) }
 {
-    let mut j = source_at(table, place + 1) - 2;
+    let count = source_at(searched.table, place + 1) - 2;
     let mut most = 0;
-    while 0 < j {
-        j -= 1;
-        let kind = source_at(table, first_operand(place) + j);
+    for j in (0..count).rev() {
+        let kind = source_at(searched.table, first_operand(place) + j);
         let at = bound[j];
         let n = need(
-            table,
-            source,
-            target,
-            places,
-            kinds,
-            tree,
+            searched,
             memory,
             free,
             Sought {
@@ -99,7 +82,7 @@ fn operands_need(
         if m < n {
             return m + 1;
         }
-        most = larger(n, most);
+        most = n.max(most);
     }
     most
 }
@@ -107,109 +90,86 @@ fn operands_need(
 // The levels that the operands of a tree with a name need, which a production of the kind has; m + 1 where there is no such tree.
 #[cycle(name_need_need_operands_need)]
 pub fn name_need(
-    table: &[u16; TABLE],
-    source: &[u8],
-    target: &[u8],
-    places: &[u16],
-    kinds: &[u8],
-    tree: &[u8],
+    searched: &Searched,
     memory: &mut [u8],
     free: &mut [u8],
     name: usize,
     sought: Sought,
 ) -> usize
-    requires { (sought.levels ≤ 16) × (name < 256) × Named table.now sought.kind name × ((f : Translation) × (g : Goal) × Seeks table.now source.now target.now places.now kinds.now tree.now memory.old free.old sought.kind sought.at f g) }
+    requires { (sought.levels ≤ 16) × (name < 256) × Named searched.now.table.now sought.kind name × ((f : Translation) × (g : Goal) × SeeksIn searched.now memory.old free.old sought.kind sought.at f g) }
     ensures { (result ≤ suc sought.levels) × (length memory.new ≡ length memory.old) × (length free.new ≡ length free.old)
-        × ((f : Translation) (g : Goal) → Seeks table.now source.now target.now places.now kinds.now tree.now memory.old free.old sought.kind sought.at f g
-        → NeedsNamed f.source (clauses_of f) sought.levels sought.kind name (suc name) g result × Truthful f tree.now memory.new free.new) }
+        × ((f : Translation) (g : Goal) → SeeksIn searched.now memory.old free.old sought.kind sought.at f g
+        → NeedsNamed f.source (clauses_of f) sought.levels sought.kind name (suc name) g result × Truthful f searched.now.tree.now memory.new free.new) }
 {
     let key = production_key(sought.kind, name);
-    let place = index_at(table, key);
-    let n = tree.len();
+    let place = index_at(searched.table, key);
+    let n = searched.tree.len();
     let mut bound = [n; 8];
     if !matches(
-        table,
-        target,
-        places,
-        kinds,
-        tree,
+        searched,
         memory,
         place,
-        clause_at(table, key),
+        clause_at(searched.table, key),
         sought.at,
         &mut bound,
     ) {
         return sought.levels + 1;
     }
-    operands_need(
-        table,
-        source,
-        target,
-        places,
-        kinds,
-        tree,
-        memory,
-        free,
-        place,
-        &bound,
-        sought.levels,
-    )
+    operands_need(searched, memory, free, place, &bound, sought.levels)
 }
 
 // The least levels at which a source tree of the kind gives what is asked at a position, where m count; m + 1 for none. Of
 // each name it is asked only whether it needs less than those before it.
 #[cycle(name_need_need_operands_need)]
-pub fn need(
-    table: &[u16; TABLE],
-    source: &[u8],
-    target: &[u8],
-    places: &[u16],
-    kinds: &[u8],
-    tree: &[u8],
-    memory: &mut [u8],
-    free: &mut [u8],
-    sought: Sought,
-) -> usize
-    requires { (sought.levels ≤ 16) × ((f : Translation) × (g : Goal) × Seeks table.now source.now target.now places.now kinds.now tree.now memory.old free.old sought.kind sought.at f g) }
+pub fn need(searched: &Searched, memory: &mut [u8], free: &mut [u8], sought: Sought) -> usize
+    requires { (sought.levels ≤ 16) × ((f : Translation) × (g : Goal) × SeeksIn searched.now memory.old free.old sought.kind sought.at f g) }
     ensures { (result ≤ suc sought.levels) × (length memory.new ≡ length memory.old) × (length free.new ≡ length free.old)
-        × ((f : Translation) (g : Goal) → Seeks table.now source.now target.now places.now kinds.now tree.now memory.old free.old sought.kind sought.at f g
-        → NeedsLevels f.source (clauses_of f) sought.levels sought.kind g result × Truthful f tree.now memory.new free.new) }
+        × ((f : Translation) (g : Goal) → SeeksIn searched.now memory.old free.old sought.kind sought.at f g
+        → NeedsLevels f.source (clauses_of f) sought.levels sought.kind g result × Truthful f searched.now.tree.now memory.new free.new) }
 {
     let kind = sought.kind;
     let at = sought.at;
     let m = sought.levels;
-    let known = recall(memory, free, tree.len(), kind, at, m);
-    if known != UNKNOWN {
+    if let Some(known) = recall(memory, free, searched.tree.len(), kind, at, m) {
         return known;
     }
-    let class = index_at(table, kind);
+    let class = index_at(searched.table, kind);
     if class != 0 {
-        return class_need(source, class, tree, at, m);
+        return class_need(searched.source, class, searched.tree, at, m);
     }
     if m == 0 {
         return 1;
     }
     let mut best = m;
-    let mut name = first_name(table, source, kinds, tree, kind, at);
-    while name < NAMES {
+    let mut next = first_name(
+        searched.table,
+        searched.source,
+        searched.kinds,
+        searched.tree,
+        kind,
+        at,
+    );
+    while let Some(name) = next {
         best = name_need(
-            table,
-            source,
-            target,
-            places,
-            kinds,
-            tree,
+            searched,
             memory,
             free,
             name,
             Sought {
-                kind,
-                at,
                 levels: best - 1,
+                ..sought
             },
         );
-        name = next_name(table, source, tree, kind, at, name, best);
+        next = next_name(
+            searched.table,
+            searched.source,
+            searched.tree,
+            kind,
+            at,
+            name,
+            best,
+        );
     }
-    keep(memory, free, tree.len(), kind, at, m, best + 1);
+    keep(memory, free, searched.tree.len(), kind, at, m, best + 1);
     best + 1
 }

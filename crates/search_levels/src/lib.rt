@@ -6,3 +6,4 @@ pub mod ends;
 pub mod levels;
 pub mod memory;
 pub mod names;
+pub mod searched;

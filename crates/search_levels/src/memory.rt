@@ -4,16 +4,13 @@ ghost use Rattle.std.specs.Prelude.{◌≡◌, suc, ◌<◌, ◌≤◌, length};
 ghost use Rattle.search_sources.specs.Inner.Levels.{recalled, noted};
 ghost use Rattle.search_levels.specs.Inner.Memory.{byte_for, memory_with, free_with, Recalls, Keeps};
 
-use format_fields::bytes::{byte_at, to_usize};
+use format_fields::bytes::byte_at;
 
 // How many bytes there are for a position.
 pub const POSITION: usize = 36;
 
 // How many of them hold where the tree there ends.
 const END: usize = 4;
-
-// What is recalled where the memory does not say.
-pub const UNKNOWN: usize = 255;
 
 // A byte up to here is one more than the levels that are needed.
 const LAST_KNOWN: usize = 17;
@@ -38,25 +35,32 @@ fn byte_for(memory: &[u8], free: &[u8], n: usize, kind: usize, at: usize) -> u8
     memory[at * POSITION + (END + kind)]
 }
 
-// The levels that are needed, where m count, by the memory.
-pub fn recall(memory: &[u8], free: &[u8], n: usize, kind: usize, at: usize, m: usize) -> usize
+// The levels that are needed, where m count, by the memory; none where it does not say.
+pub fn recall(
+    memory: &[u8],
+    free: &[u8],
+    n: usize,
+    kind: usize,
+    at: usize,
+    m: usize,
+) -> Option<usize>
     requires { (kind < 32) × (m ≤ 16) }
     ensures { result ≡ recalled m (byte_for memory.now free.now n kind at) }
 {
-    let b = to_usize(byte_for(memory, free, n, kind, at));
+    let b = usize::from(byte_for(memory, free, n, kind, at));
     if b == 0 {
-        return UNKNOWN;
+        return None;
     }
     if b <= LAST_KNOWN {
         if b <= m + 1 {
-            return b - 1;
+            return Some(b - 1);
         }
-        return m + 1;
+        return Some(m + 1);
     }
     if m + FIRST_ABOVE <= b {
-        return m + 1;
+        return Some(m + 1);
     }
-    UNKNOWN
+    None
 }
 
 // The byte to keep for r levels that are needed, where m count.
@@ -96,21 +100,25 @@ pub fn keep(
     memory[at * POSITION + (END + kind)] = byte;
 }
 
-// Where the tree of a kind at a position ends, where that is kept; 0 where it is not.
-pub fn kept_end(memory: &[u8], kind: u8, at: usize) -> usize
+// Where the tree of a kind at a position ends, where that is kept: no tree ends at 0.
+pub fn kept_end(memory: &[u8], kind: u8, at: usize) -> Option<usize>
     ensures { Recalls memory.now kind at result }
 {
     if memory.len() / POSITION <= at {
-        return 0;
+        return None;
     }
     let p = at * POSITION;
-    let front = to_usize(memory[p]);
-    if front / 8 != to_usize(kind) {
-        return 0;
+    let front = usize::from(memory[p]);
+    if front / 8 != usize::from(kind) {
+        return None;
     }
-    front % 8 * 16777216
-        + (to_usize(memory[p + 1]) * 65536
-            + (to_usize(memory[p + 2]) * 256 + to_usize(memory[p + 3])))
+    let end = front % 8 * 16777216
+        + (usize::from(memory[p + 1]) * 65536
+            + (usize::from(memory[p + 2]) * 256 + usize::from(memory[p + 3])));
+    if end == 0 {
+        return None;
+    }
+    Some(end)
 }
 
 // Keeps where the tree of a kind at a position ends, where there is room.
@@ -125,7 +133,7 @@ pub fn keep_end(memory: &mut [u8], kind: u8, at: usize, end: usize)
         return;
     }
     let p = at * POSITION;
-    memory[p] = (to_usize(kind) * 8 + end / 16777216) as u8;
+    memory[p] = (usize::from(kind) * 8 + end / 16777216) as u8;
     memory[p + 1] = (end / 65536 % 256) as u8;
     memory[p + 2] = (end / 256 % 256) as u8;
     memory[p + 3] = (end % 256) as u8;

@@ -4,74 +4,72 @@ ghost use Rattle.format_language.specs.Language.{production_key};
 ghost use Rattle.format_translation.specs.Translation.{Translation};
 ghost use Rattle.format_translation.specs.Running.{clauses_of};
 ghost use Rattle.search_sources.specs.Inner.Goals.{Goal};
-ghost use Rattle.search_levels.specs.Inner.Setting.{Filed, Unnamed, Without, Named, Seeks};
+ghost use Rattle.search_levels.specs.Inner.Setting.{Filed, Unnamed, Without, Named, IsNamed, up_to, Seeks};
 
 use crate::clause::root_differs;
-use format_fields::bytes::{byte_at, to_usize};
+use format_fields::bytes::byte_at;
 use run_table::table::{clause_at, index_at};
 use tree_reader::index::TABLE;
 use tree_reader::operands::{KINDS, NAMES, last_operand, production_key};
 
-// The first name, from one on, that a production of the kind has; 256 where none has.
-pub fn name_from(table: &[u16; TABLE], kind: usize, from: usize) -> usize
+// The first name, from one on, that a production of the kind has.
+pub fn name_from(table: &[u16; TABLE], kind: usize, from: usize) -> Option<usize>
     requires { (kind < 32) × (from ≤ 256) }
-    ensures { (from ≤ result) × (result ≤ 256) × Named table.now kind result × Unnamed table.now kind from result }
+    ensures { (from ≤ up_to result) × IsNamed table.now kind result × Unnamed table.now kind from (up_to result) }
 {
-    let mut name = from;
-    while name < NAMES {
+    for name in from..NAMES {
         if index_at(table, production_key(kind, name)) != 0 {
-            return name;
+            return Some(name);
         }
-        name += 1;
     }
-    name
+    None
 }
 
-// The name of the kind's next production behind that of a name, which stands where that ends; 256 where there is none.
-fn name_behind(table: &[u16; TABLE], source: &[u8], kind: usize, name: usize) -> usize
+// The name of the kind's next production behind that of a name, which stands where that ends.
+fn name_behind(table: &[u16; TABLE], source: &[u8], kind: usize, name: usize) -> Option<usize>
     requires { (kind < 32) × (name < 256) × (0 < get_or table.now (production_key kind name) 0) × Filed table.now source.now }
-    ensures { (name < result) × (result ≤ 256) × Named table.now kind result × Unnamed table.now kind (name + 1) result }
+    ensures { (name < up_to result) × IsNamed table.now kind result × Unnamed table.now kind (name + 1) (up_to result) }
 {
     let place = index_at(table, production_key(kind, name));
     let next = last_operand(source, place);
     if source.len() <= next {
-        return NAMES;
+        return None;
     }
-    if to_usize(source[next + 3]) != kind {
-        return NAMES;
+    if usize::from(source[next + 3]) != kind {
+        return None;
     }
-    to_usize(source[next + 4])
+    Some(usize::from(source[next + 4]))
 }
 
 // The first name, from one on that a production of the kind has, whose clause has the root that stands at a position, or an
-// argument there; 256 where none has.
+// argument there.
 pub fn candidate(
     table: &[u16; TABLE],
     source: &[u8],
     tree: &[u8],
     kind: usize,
     at: usize,
-    from: usize,
-) -> usize
-    requires { (from ≤ 256) × Named table.now kind from
+    from: Option<usize>,
+) -> Option<usize>
+    requires { IsNamed table.now kind from
         × ((target places kinds memory free : List ℕ) × (f : Translation) × (g : Goal) × Seeks table.now source.now target places kinds tree.now memory free kind at f g) }
-    ensures { (from ≤ result) × (result ≤ 256) × Named table.now kind result
+    ensures { (up_to from ≤ up_to result) × IsNamed table.now kind result
         × ((target places kinds memory free : List ℕ) (f : Translation) (g : Goal) → Seeks table.now source.now target places kinds tree.now memory free kind at f g
-        → Without f.source (clauses_of f) kind g from result) }
+        → Without f.source (clauses_of f) kind g (up_to from) (up_to result)) }
 {
-    let mut name = from;
-    while name < NAMES {
+    let mut next = from;
+    while let Some(name) = next {
         if !root_differs(
             table,
             tree,
             clause_at(table, production_key(kind, name)),
             at,
         ) {
-            return name;
+            return next;
         }
-        name = name_behind(table, source, kind, name);
+        next = name_behind(table, source, kind, name);
     }
-    name
+    None
 }
 
 // The name to go on with behind one. None is left where no tree can need less.
@@ -83,15 +81,15 @@ pub fn next_name(
     at: usize,
     name: usize,
     best: usize,
-) -> usize
+) -> Option<usize>
     requires { (name < 256) × Named table.now kind name
         × ((target places kinds memory free : List ℕ) × (f : Translation) × (g : Goal) × Seeks table.now source.now target places kinds tree.now memory free kind at f g) }
-    ensures { (name < result) × (result ≤ 256) × (result < 256 → 0 < best) × Named table.now kind result
+    ensures { (name < up_to result) × (up_to result < 256 → 0 < best) × IsNamed table.now kind result
         × ((target places kinds memory free : List ℕ) (f : Translation) (g : Goal) → Seeks table.now source.now target places kinds tree.now memory free kind at f g
-        → 0 < best → Without f.source (clauses_of f) kind g (name + 1) result) }
+        → 0 < best → Without f.source (clauses_of f) kind g (name + 1) (up_to result)) }
 {
     if best == 0 {
-        return NAMES;
+        return None;
     }
     let behind = name_behind(table, source, kind, name);
     candidate(table, source, tree, kind, at, behind)
@@ -105,13 +103,13 @@ pub fn first_name(
     tree: &[u8],
     kind: usize,
     at: usize,
-) -> usize
+) -> Option<usize>
     requires { (target places memory free : List ℕ) × (f : Translation) × (g : Goal) × Seeks table.now source.now target places kinds.now tree.now memory free kind at f g }
-    ensures { (result ≤ 256) × Named table.now kind result
+    ensures { IsNamed table.now kind result
         × ((target places memory free : List ℕ) (f : Translation) (g : Goal) → Seeks table.now source.now target places kinds.now tree.now memory free kind at f g
-        → Without f.source (clauses_of f) kind g 0 result) }
+        → Without f.source (clauses_of f) kind g 0 (up_to result)) }
 {
-    let lowest = to_usize(byte_at(kinds, KINDS + kind));
+    let lowest = usize::from(byte_at(kinds, KINDS + kind));
     candidate(
         table,
         source,

@@ -1,4 +1,6 @@
 -- The first source tree found, or none: a law for each return of `find`.
+use Rattle.std.specs.Prelude.{Err, Ok}
+use Rattle.outcome.specs.Outcome.{Outcome}
 use Prim.Native.Nat.{ℕ, min, ◌+◌, ◌≤◌, ◌<◌}
 use mathlib.Core.Path.{◌≡◌, refl, ap, ◌∙◌}
 use mathlib.Core.List.{List, ◌++◌}
@@ -6,8 +8,6 @@ use mathlib.Core.Option.{Option, none, some}
 use native.Mathlib.Omega.{arith}
 use lib.ListN.{length, drop}
 use borrow.Author.Tests.{le-ltb, lt-ltb}
-use Rattle.outcome.specs.declared.Outcome.{Outcome}
-use Rattle.outcome.specs.declared.Outcome.TheVariants.{Accepted, Refused}
 use Rattle.outcome.specs.declared.Reason.TheVariants.{NoSource, OutputTooShort}
 use Rattle.format_fields.specs.Inner.Writing.{spliced}
 use Rattle.tree_reader.specs.Code.{Code}
@@ -59,7 +59,7 @@ module _ (table source target places kinds bytes memory free : List ℕ) (k : �
         go none e = let t = n.finds within in absurd (none_by e t.0 (fits_more within t.1))
         go (some v) e = let t = first_by v e in (t.0, t.1, ap (search_of f limit k) w.whole ∙ (e ∙ ap some t.2))
 
-    pub find_none : (o : List ℕ) (out : Outcome) → limit < needed → out ≡ Refused NoSource → Answers (found_in f k bytes limit (length o)) o o out
+    pub find_none : (o : List ℕ) (out : Outcome) → limit < needed → out ≡ Err NoSource → Answers (found_in f k bytes limit (length o)) o o out
     unfolding found_in
     find_none o out past e = rw (searched_none past) (record { answer = e; left = refl })
 
@@ -71,7 +71,7 @@ module _ (table source target places kinds bytes memory free : List ℕ) (k : �
       measured : m ≡ min (length o + 1) (0 + length first_bytes)
       measured = (p (the_first within).0 (the_first within).1).to
 
-      pub find_long : (out : Outcome) → length o < m → out ≡ Refused OutputTooShort → Answers (found_in f k bytes limit (length o)) o o out
+      pub find_long : (out : Outcome) → length o < m → out ≡ Err OutputTooShort → Answers (found_in f k bytes limit (length o)) o o out
       unfolding found_in
       find_long out past e =
           let x = measured in
@@ -80,7 +80,7 @@ module _ (table source target places kinds bytes memory free : List ℕ) (k : �
 
       pub find_there : (out : Outcome) (r : ℕ) (after : List ℕ) → m ≤ length o
           → ((t : Code) → First f.source (clauses_of f) limit k (some u) t → Puts (length o + 1) (write tree t) o after 0 r)
-          → out ≡ Accepted m → Answers (found_in f k bytes limit (length o)) o after out
+          → out ≡ Ok m → Answers (found_in f k bytes limit (length o)) o after out
       unfolding found_in spliced
       find_there out r after fits q e =
           let x = measured in
@@ -91,4 +91,4 @@ module _ (table source target places kinds bytes memory free : List ℕ) (k : �
           let a : 0 + length first_bytes ≡ length first_bytes = omega arith in
           let s = y.is (omega arith) (omega arith) in
           rw ((the_first within).2, le-ltb (length o) (length first_bytes) l)
-          (record { answer = e ∙ ap Accepted d; left = s ∙ ap (λ (i : ℕ). first_bytes ++ drop i o) a })
+          (record { answer = e ∙ ap Ok d; left = s ∙ ap (λ (i : ℕ). first_bytes ++ drop i o) a })

@@ -1,4 +1,5 @@
 -- The search over the parts of a translation: what it hands to `find`.
+use Rattle.std.specs.Prelude.{Err, Ok}
 use Prim.Native.Nat.{ℕ, ◌+◌, ◌≤◌, ◌<◌}
 use mathlib.Core.Path.{◌≡◌, refl, ap, sym, ◌∙◌}
 use mathlib.Core.Bool.{Bool, true, false, not, ◌&&◌}
@@ -9,9 +10,7 @@ use lib.ListN.{length, get_or, replicate}
 use lib.Dec.{leb}
 use borrow.Author.Tests.{le-ltb, le-leb, lt-leb}
 use Rattle.format_fields.specs.Inner.Places.{places}
-use Rattle.outcome.specs.Outcome.{Result, value, refused, refuse_if}
-use Rattle.outcome.specs.declared.Outcome.{Outcome}
-use Rattle.outcome.specs.declared.Outcome.TheVariants.{Accepted, Refused}
+use Rattle.outcome.specs.Outcome.{Result, value, refused, refuse_if, Outcome}
 use Rattle.outcome.specs.declared.Reason.{Reason}
 use Rattle.outcome.specs.declared.Reason.TheVariants.{UnknownRoot, LimitOutOfRange, NumberUnfit}
 use Rattle.format_fields.proofs.Codec.{bytes_from, value_inj}
@@ -141,13 +140,13 @@ module _ (source target body kinds bytes : List ℕ) (k limit : ℕ) (f : Transl
   root_mapped : root ≡ mapped f.body k 0
   root_mapped = root_is ∙ maps.maps k small
 
-  pub stage_refused : (r : Reason) → c ≡ Refused r → ready_in f k bytes limit ≡ refused r
+  pub stage_refused : (r : Reason) → c ≡ Err r → ready_in f k bytes limit ≡ refused r
   unfolding ready_in
   stage_refused r h =
       let q = refused_tree target root bytes (λ l u. refuse_if (not (is_limit limit)) LimitOutOfRange (value f)) {r = r} (sym told ∙ h) in
       rw (target_language z, root_mapped) at q
 
-  module _ (n : ℕ) (h : c ≡ Accepted n) where
+  module _ (n : ℕ) (h : c ≡ Ok n) where
     abbrev checked : Legal.Checked target root bytes
     checked = accepted_tree target root bytes (sym told ∙ h)
 
@@ -166,7 +165,7 @@ module _ (source target body kinds bytes : List ℕ) (k limit : ℕ) (f : Transl
     stage_passed e = rw (tree_is, e)
 
     pub stage_placed : (places : List ℕ) → ((i : ℕ) → get_or bytes i 0 < 256)
-        → ((n : ℕ) (l : Language) → c ≡ Accepted n → entries_of target ≡ some l → Indexed places target l) → Placed target places bytes k f checked.subject
+        → ((n : ℕ) (l : Language) → c ≡ Ok n → entries_of target ≡ some l → Indexed places target l) → Placed target places bytes k f checked.subject
     stage_placed places narrow indexed =
         let r = tree_right f.target (mapped f.body k 0) bytes checked.subject tree_is in
         let e = (r.1.2 (bytes_from bytes (λ i q. narrow i))).0 in
@@ -192,7 +191,7 @@ limit_good n h i = rw (le-leb 1 n h, le-leb n 16 i)
 
 -- What is left at a refusal, and behind a search.
 module _ (stage : Result Translation) (k : ℕ) (bytes : List ℕ) (limit : ℕ) (o workspace : List ℕ) (out : Outcome) where
-  pub leaves_refused : (r : Reason) → stage ≡ refused r → out ≡ Refused r → Leaves stage k bytes limit o o workspace workspace out
+  pub leaves_refused : (r : Reason) → stage ≡ refused r → out ≡ Err r → Leaves stage k bytes limit o o workspace workspace out
   leaves_refused r e h = rw e (record { answer = h; output = refl; memory = refl })
 
   pub leaves_found : (f : Translation) (after left : List ℕ) → stage ≡ value f → Answers (found_in f k bytes limit (length o)) o after out → left ≡ replicate (length workspace) 0
@@ -205,7 +204,7 @@ root_past table uses source target f z root h =
     refuted (is_in f.source root) (λ e. let x = in_below source root f.source z.searchable.checked.pieces.source e in omega arith)
 
 module _ (f : Translation) (root : ℕ) (bytes : List ℕ) (limit : ℕ) (workspace o : List ℕ) (out : Outcome) where
-  pub from_unknown : is_in f.source root ≡ false → out ≡ Refused UnknownRoot → Leaves (ready_from f root bytes limit) root bytes limit o o workspace workspace out
+  pub from_unknown : is_in f.source root ≡ false → out ≡ Err UnknownRoot → Leaves (ready_from f root bytes limit) root bytes limit o o workspace workspace out
   unfolding ready_from
   from_unknown e i = leaves_refused (ready_from f root bytes limit) root bytes limit o workspace out UnknownRoot (rw e) i
 
@@ -245,16 +244,16 @@ module _ (s : List ℕ) (root : ℕ) (bytes : List ℕ) (limit : ℕ) (workspace
   unfolding search_tree search_bytes
   as_leaves after left h = (h.answer, h.output, h.memory)
 
-  pub search_refused : (c : Outcome) (r : Reason) → c ≡ check_translation s → c ≡ Refused r → out ≡ Refused r → AsSearched s root bytes limit workspace workspace o o out
+  pub search_refused : (c : Outcome) (r : Reason) → c ≡ check_translation s → c ≡ Err r → out ≡ Err r → AsSearched s root bytes limit workspace workspace o o out
   unfolding check_translation ready
   search_refused c r ec h i = as_leaves o workspace (leaves_refused (ready s root bytes limit) root bytes limit o workspace out r (go (translation_of s) refl (sym ec ∙ h)) i)
     where
-      go : (q : Result Translation) → translation_of s ≡ q → Rattle.outcome.specs.Outcome.checked q ≡ Refused r → ready s root bytes limit ≡ refused r
+      go : (q : Result Translation) → translation_of s ≡ q → Rattle.outcome.specs.Outcome.checked q ≡ Err r → ready s root bytes limit ≡ refused r
       go (value f) e d = refused_not {n = 0} {r = r} (sym d)
       go (refused x) e d = rw e (cc)
 
   module _ (f : Translation) (is : translation_of s ≡ value f) where
-    pub search_numbered : plain f.body ≡ false → out ≡ Refused NumberUnfit → AsSearched s root bytes limit workspace workspace o o out
+    pub search_numbered : plain f.body ≡ false → out ≡ Err NumberUnfit → AsSearched s root bytes limit workspace workspace o o out
     unfolding ready
     search_numbered e i = as_leaves o workspace (leaves_refused (ready s root bytes limit) root bytes limit o workspace out NumberUnfit (rw (is, e)) i)
 

@@ -18,11 +18,7 @@ fn mapped_kind(uses: &[u8; USES_ROOM], kind: usize) -> u8
     requires { kind < 32 }
     ensures { result ≡ get_or uses.now (kind * 256) 0 - 1 }
 {
-    let next = byte_at(uses, kind * NAMES);
-    if next == 0 {
-        return 0;
-    }
-    next - 1
+    byte_at(uses, kind * NAMES).saturating_sub(1)
 }
 
 // A name below which no production of a kind has one: its lowest, where it has any.
@@ -36,11 +32,10 @@ fn lowest_name(table: &[u16; TABLE], uses: &[u8; USES_ROOM], kind: usize) -> u8
     if index_at(table, kind) != 0 {
         return 0;
     }
-    let name = name_from(table, kind, 0);
-    if NAMES <= name {
-        return 0;
+    match name_from(table, kind, 0) {
+        Some(name) => name as u8,
+        None => 0,
     }
-    name as u8
 }
 
 // Puts both for all kinds.
@@ -49,10 +44,8 @@ pub fn put_kinds(table: &[u16; TABLE], uses: &[u8; USES_ROOM], kinds: &mut [u8])
     ensures { ((b : Body) → UsesOf uses.now b → Mapped kinds.new b)
         × ((k : ℕ) → k < 32 → Unnamed table.now k 0 (get_or kinds.new (32 + k) 0)) }
 {
-    let mut kind = 0;
-    while kind < KINDS {
+    for kind in 0..KINDS {
         kinds[kind] = mapped_kind(uses, kind);
         kinds[KINDS + kind] = lowest_name(table, uses, kind);
-        kind += 1;
     }
 }

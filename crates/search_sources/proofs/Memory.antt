@@ -4,6 +4,7 @@ use mathlib.Core.Path.{◌≡◌, refl}
 use mathlib.Core.Bool.{Bool, true, false, cond}
 use native.Mathlib.Omega.{arith}
 use lib.Dec.{eqb, leb}
+use Rattle.std.specs.Prelude.{None, Some}
 use borrow.Author.Tests.{leb-true, leb-false, eqb-false}
 use Rattle.format_language.specs.Language.{Language}
 use Rattle.tree_reader.specs.Code.{Code}
@@ -32,26 +33,29 @@ module _ {l : Language} {f : Clauses} {k : ℕ} {g : Goal} where
   cut_past m x h i q = cut_none m m (omega arith) (λ t z. let y = q.least m t h z in omega arith)
 
   -- What is recalled is true.
-  pub recall_needs : (m b : ℕ) → m ≤ 16 → Says l f k g b → (recalled m b ≡ 255 → ⊥) → Needs l f m k g (recalled m b)
+  pub recall_needs : (m b : ℕ) → m ≤ 16 → Says l f k g b → (r : ℕ) → recalled m b ≡ Some r → Needs l f m k g r
   unfolding recalled
-  recall_needs m b h s q = go (eqb b 0) (leb b 17) (leb b (m + 1)) (leb (m + 18) b) refl refl refl refl q
+  recall_needs m b h s r q = go (eqb b 0) (leb b 17) (leb b (m + 1)) (leb (m + 18) b) refl refl refl refl q
     where
       go : (u v w x : Bool) → eqb b 0 ≡ u → leb b 17 ≡ v → leb b (m + 1) ≡ w → leb (m + 18) b ≡ x
-          → (cond u 255 (cond v (cond w (b - 1) (m + 1)) (cond x (m + 1) 255)) ≡ 255 → ⊥)
-          → Needs l f m k g (cond u 255 (cond v (cond w (b - 1) (m + 1)) (cond x (m + 1) 255)))
-      go true v w x e i j y z = absurd (z refl)
+          → cond u None (cond v (cond w (Some (b - 1)) (Some (m + 1))) (cond x (Some (m + 1)) None)) ≡ Some r
+          → Needs l f m k g r
+      go true v w x e i j y z = absurd cc
       go false true true x e i j y z =
           let d = eqb-false b 0 e in
-          cut_within m (b - 1) h (omega (arith, leb-true b (m + 1) j)) (s.number (omega (arith, d)) (leb-true b 17 i))
+          let a : r ≡ b - 1 = cc in
+          rw a (cut_within m (b - 1) h (omega (arith, leb-true b (m + 1) j)) (s.number (omega (arith, d)) (leb-true b 17 i)))
       go false true false x e i j y z =
           let d = eqb-false b 0 e in
-          let a : suc m ≡ m + 1 = omega arith in
-          rw (← a) (cut_past m (b - 1) h (omega (arith, leb-false b (m + 1) j)) (s.number (omega (arith, d)) (leb-true b 17 i)))
+          let n : r ≡ m + 1 = cc in
+          let a : r ≡ suc m = omega arith in
+          rw a (cut_past m (b - 1) h (omega (arith, leb-false b (m + 1) j)) (s.number (omega (arith, d)) (leb-true b 17 i)))
       go false false w true e i j y z =
-          let a : suc m ≡ m + 1 = omega arith in
+          let n : r ≡ m + 1 = cc in
+          let a : r ≡ suc m = omega arith in
           let d = leb-true (m + 18) b y in
-          rw (← a) (cut_none m (b - 18) (omega arith) (s.above (omega arith)))
-      go false false w false e i j y z = absurd (z refl)
+          rw a (cut_none m (b - 18) (omega arith) (s.above (omega arith)))
+      go false false w false e i j y z = absurd cc
 
   -- What is kept is true.
   whole : (m r : ℕ) → m ≤ 16 → r ≤ m → Needs l f m k g r → Needs l f 16 k g r

@@ -1,8 +1,7 @@
 -- The search back (paper 02, 2026-09).
 use Rattle.std.specs.Prelude.{ℕ, Bool, not, ◌&&◌, List, length, replicate, leb}
 use Rattle.std.proofs.Math.Option.{Option, none, some}
-use Rattle.outcome.specs.Outcome.{Result, value, refused, refuse_if, ◌>>=◌, written, output_after}
-use Rattle.outcome.specs.declared.Outcome.{Outcome}
+use Rattle.outcome.specs.Outcome.{Result, value, refused, refuse_if, ◌>>=◌, written, output_after, Outcome}
 use Rattle.outcome.specs.declared.Reason.TheVariants.{UnknownRoot, NoSource, LimitOutOfRange, NumberUnfit}
 use Rattle.format_language.specs.Language.{is_in}
 use Rattle.tree_reader.specs.Operations.{tree_of}

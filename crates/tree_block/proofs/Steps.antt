@@ -4,6 +4,8 @@ use mathlib.Core.Path.{◌≡◌, refl, sym, ap, ◌∙◌}
 use mathlib.Core.List.{List, [], ◌∷◌, ◌++◌, append_assoc}
 use mathlib.Core.Option
 use mathlib.Core.Option.{Option, none, some}
+use Rattle.std.specs.Prelude.{Some, None}
+use Rattle.std.specs.Prelude.{Option as Maybe}
 use native.Mathlib.Omega.{arith}
 use lib.ListN.{length, get_or, drop, length-append}
 use lib.Seq.{slice, drop-drop, drop-append_seam}
@@ -22,31 +24,9 @@ use Rattle.tree_index.proofs.Rows.{kinds_end, Turn, turn}
 use Rattle.tree_index.proofs.Pairs.{Entry, entry_read}
 use Rattle.tree_index.proofs.Walking.{shape_size, shape_spans, entries_append, entries_cons}
 use Rattle.tree_index.proofs.Starts.{spans_below, row_behind, entered_own}
-use Rattle.tree_block.specs.Blocks.{Block, block_of, argument_after, argument_of}
+use Rattle.tree_block.specs.Blocks.{block_of, argument_after, argument_of}
 use Rattle.tree_block.specs.Inner.Descent.{Along, AlongRow, Leads}
-use Rattle.tree_block.specs.declared.descent.Step.{Step}
-use Rattle.tree_block.specs.declared.descent.Step.TheVariants.{To, Nowhere, Unseen}
-
--- Answers of a step.
-pub to_nowhere : {A : Type 0} {a k p : ℕ} → Nowhere ≡ To a k p → A
-to_nowhere e = let z : ◌≡◌ {A = ℕ} 0 1 = cc in absurd (omega arith)
-
-pub nowhere_unseen : {A : Type 0} → Nowhere ≡ Unseen → A
-nowhere_unseen e = let z : ◌≡◌ {A = ℕ} 0 1 = cc in absurd (omega arith)
-
-pub to_unseen : {A : Type 0} {a k p : ℕ} → To a k p ≡ Unseen → A
-to_unseen e = let z : ◌≡◌ {A = ℕ} 0 1 = cc in absurd (omega arith)
-
-module _ (x s b i : List ℕ) (l : Language) (o : Option Block) where
-  leads_nowhere : o ≡ none → Leads x s b i l o Nowhere
-  leads_nowhere h = record { to = λ a k p e. to_nowhere e; nowhere = λ e. h; seen = λ e. nowhere_unseen e }
-
-  leads_to : (a k p : ℕ) (t : Code) → o ≡ some (block_of a k t) → Along x s b i a k p l t → Leads x s b i l o (To a k p)
-  leads_to a k p t h w = record {
-    to = λ a' k' p' e. let ea : a ≡ a' = cc in let ek : k ≡ k' = cc in let ep : p ≡ p' = cc in rw (← ea, ← ek, ← ep) (t, h, w);
-    nowhere = λ e. to_nowhere (sym e);
-    seen = λ e. to_unseen e;
-  }
+use Rattle.tree_block.specs.declared.descent.BlockAt.{BlockAt}
 
 -- The first of the arguments that are left, by the index.
 pub record Next (x s b i : List ℕ) (to p q last : ℕ) (l : Language) (ts : Codes) : Type 0 where
@@ -110,21 +90,21 @@ pub record Walking (x s b i : List ℕ) (first last at number q to p left : ℕ)
   pub row : AlongRow x s b i to p q last l others
   pub same : argument_after (slice q last s) others (left - 1) to ≡ argument_after (slice first last s) ts (number - 1) at
 
-module _ (x s b i : List ℕ) (first last at number q to p left : ℕ) (l : Language) (ts : Codes) (w : Walking x s b i first last at number q to p left l ts) where
-  pub walk_done : last ≤ q → Leads x s b i l (argument_after (slice first last s) ts (number - 1) at) Nowhere
+module _ {x s b i : List ℕ} {first last at number q to p left : ℕ} {l : Language} {ts : Codes} (w : Walking x s b i first last at number q to p left l ts) where
+  pub walk_done : last ≤ q → Leads x s b i l (argument_after (slice first last s) ts (number - 1) at) None
   unfolding argument_after
   walk_done h =
-      leads_nowhere x s b i l _ (sym (part_done (λ (v : List ℕ). argument_after v w.others (left - 1) to) s q last _ refl h ∙ w.same))
+      (sym (part_done (λ (v : List ℕ). argument_after v w.others (left - 1) to) s q last _ refl h ∙ w.same))
 
   module _ (kinds : KindsIn s first last) (low : first ≤ q) (here : q < last) where
     pub walk_next : Next x s b i to p q last l w.others
     walk_next = next_argument x s b i to p q last l w.others w.row here (kinds_end s first last q kinds low here)
 
-    pub walk_here : left ≡ 1 → Leads x s b i l (argument_after (slice first last s) ts (number - 1) at) (To to (get_or s q 0) p)
+    pub walk_here : left ≡ 1
+        → Leads x s b i l (argument_after (slice first last s) ts (number - 1) at) (Some (record { start = to; kind = get_or s q 0; entry = p }))
     walk_here h =
         let z : 0 ≡ left - 1 = omega arith in
-        leads_to x s b i l _ to (get_or s q 0) p walk_next.head
-        (sym w.same ∙ (ap (λ (n : ℕ). argument_after (slice q last s) w.others n to) (sym z) ∙ walk_next.here)) walk_next.along
+        (walk_next.head, sym w.same ∙ (ap (λ (n : ℕ). argument_after (slice q last s) w.others n to) (sym z) ∙ walk_next.here), walk_next.along)
 
     -- The argument ends in the bytes.
     pub walk_inside : to + size walk_next.head ≤ longest
@@ -137,16 +117,16 @@ module _ (x s b i : List ℕ) (first last at number q to p left : ℕ) (l : Lang
     pub walk_entry : (v : List ℕ) × Entry i p to (size walk_next.head) v
     walk_entry = entered_own i p to walk_next.head walk_next.along.entered
 
-    module _ (n : ℕ) (en : n ≡ pair_at i (p + 2)) where
+    module _ {n : ℕ} (en : n ≡ pair_at i (p + 2)) where
       pub size_read : n ≡ size walk_next.head
       size_read = en ∙ walk_entry.1.long
 
       pub walk_splits : Splits i p (to + n) (spans to walk_next.head) walk_next.after
       walk_splits = rw size_read walk_next.splits
 
-      pub walk_on : (left ≡ 1 → ⊥) → 0 < left → (p' : ℕ) → p' ≡ p + length (entries (spans to walk_next.head))
+      pub walk_on : (left ≡ 1 → ⊥) → 0 < left → {p' : ℕ} → p' ≡ p + length (entries (spans to walk_next.head))
           → Walking x s b i first last at number (q + 1) (to + n) p' (left - 1) l ts
-      walk_on h j p' e =
+      walk_on h j {p'} e =
           let z : suc (left - 1 - 1) ≡ left - 1 = omega arith in
           rw size_read (record {
             others = walk_next.tail;
@@ -167,14 +147,14 @@ no_zeroth l at (node k p ts) = refl
 no_zeroth l at (token v) = refl
 no_zeroth l at (argument j m) = refl
 
-module _ (x s b i : List ℕ) (at k p : ℕ) (l : Language) (t : Code) (w : Along x s b i at k p l t) where
-  pub zero_none : (n : ℕ) → n ≡ 0 → Leads x s b i l (argument_of l at t n) Nowhere
-  zero_none n e = leads_nowhere x s b i l _ (rw e (no_zeroth l at t))
+module _ {x s b i : List ℕ} {at k p : ℕ} {l : Language} {t : Code} (w : Along x s b i at k p l t) where
+  pub zero_none : (n : ℕ) → n ≡ 0 → Leads x s b i l (argument_of l at t n) None
+  zero_none n e = rw e (no_zeroth l at t)
 
   pub entry_inside : p + 4 ≤ length i
   entry_inside = (entered_own i p at t w.entered).1.inside
 
-  module _ (first last to : ℕ) (o : Opens x s b at k l t first last to) where
+  module _ {first last to : ℕ} (o : Opens x s b at k l t first last to) where
     pub opened_row : AlongRow x s b i to (p + 4) first last l o.operands
     opened_row =
         let y : at + o.front ≡ to = sym o.past in
@@ -192,7 +172,7 @@ module _ (x s b i : List ℕ) (at k p : ℕ) (l : Language) (t : Code) (w : Alon
           behind = rw z at w.entered.behind;
         }
 
-    pub argument_leads : (n : ℕ) → (n ≡ 0 → ⊥) → (r : Step) → Leads x s b i l (argument_after (slice first last s) o.operands (n - 1) to) r
+    pub argument_leads : (n : ℕ) → (n ≡ 0 → ⊥) → (r : Maybe BlockAt) → Leads x s b i l (argument_after (slice first last s) o.operands (n - 1) to) r
         → Leads x s b i l (argument_of l at t n) r
     argument_leads n h r v =
         let m : suc (n - 1) ≡ n = omega arith in

@@ -1,8 +1,6 @@
 -- The operation that shows one block of a tree (paper 02, 2026-06; the index by 2026-08).
-use Rattle.std.specs.Prelude.{ℕ, List, [], length}
-use Rattle.outcome.specs.Outcome.{Result, value, refused, ◌>>=◌}
-use Rattle.outcome.specs.declared.Outcome.{Outcome}
-use Rattle.outcome.specs.declared.Outcome.TheVariants.{Accepted, Refused}
+use Rattle.std.specs.Prelude.{ℕ, List, [], length, Err, Ok}
+use Rattle.outcome.specs.Outcome.{Result, value, refused, ◌>>=◌, Outcome}
 use Rattle.outcome.specs.declared.Reason.TheVariants.{NoBlock, Hidden}
 use Rattle.format_language.specs.LanguageFile.{language_of}
 use Rattle.tree_index.specs.Operations.{indexed_tree}
@@ -31,8 +29,8 @@ pub record Shown : Type 0 where
 
 -- A refusal hands back an empty part and kind 0.
 abbrev pub shown : Result Block → Shown
-shown (value b) = record { outcome = Accepted (length (bytes_of b)); start = b.start; bytes = bytes_of b; kind = b.kind }
-shown (refused r) = record { outcome = Refused r; start = 0; bytes = []; kind = 0 }
+shown (value b) = record { outcome = Ok (length (bytes_of b)); start = b.start; bytes = bytes_of b; kind = b.kind }
+shown (refused r) = record { outcome = Err r; start = 0; bytes = []; kind = 0 }
 
 -- Show one block.
 unfoldable pub show_block : (language : List ℕ) (root : ℕ) (bytes index path : List ℕ) → Shown

@@ -1,6 +1,6 @@
 // The way from the root of a legal tree to the block at a path, by the tree's index: arguments are stepped over by the lengths
 // that stand there.
-ghost use Rattle.std.specs.Prelude.{Bool, List, ℕ, ◌+◌, ◌-◌, ◌<◌};
+ghost use Rattle.std.specs.Prelude.{Bool, List, ℕ, ◌-◌, ◌<◌};
 ghost use Rattle.std.proofs.Math.Seq.{slice};
 ghost use Rattle.format_language.specs.Language.{Language};
 ghost use Rattle.tree_reader.specs.Code.{Code, Codes};
@@ -10,84 +10,74 @@ ghost use Rattle.tree_block.specs.Inner.Descent.{SetOf, Along, AlongRow, Leads, 
 
 use format_card::set::in_set;
 use format_fields::bytes::pair_in;
+use outcome::Reason;
 use tree_index::entries::{ENTRY, entry_from};
-use tree_index::operands::operands_at;
+use tree_index::operands::{OperandsAt, operands_at};
 
 // The set of all kinds: bit k stands for kind k.
-pub const EVERY_KIND: u32 = 4294967295;
+pub const EVERY_KIND: u32 = u32::MAX;
 
-// Where a step leads: to a block, by its start, its kind and where its entry stands in the index; nowhere; or to a block that
-// may not be seen.
+// Where a block stands: its start in the tree, its kind, and its entry in the index.
 #[derive(Clone, Copy)]
-pub enum Step {
-    To(usize, u8, usize),
-    Nowhere,
-    Unseen,
+pub struct BlockAt {
+    pub start: usize,
+    pub kind: u8,
+    pub entry: usize,
 }
 
-// Of arguments that start at a position, whose kinds stand in the language from `first` up to `last` and whose entries stand
-// in the index from `entry` on, the one of a number, counted from 1.
+// Of operands whose entries stand in the index from `entry` on, the one of a number, counted from 1.
 fn argument_among(
     language: &[u8],
-    first: usize,
-    last: usize,
+    operands: OperandsAt,
     index: &[u8],
-    at: usize,
     entry: usize,
     number: u8,
-) -> Step
-    requires { (0 < number) × KindsIn language.now first last
-        × ((x : List ℕ) × (b : List ℕ) × (l : Language) × (ts : Codes) × AlongRow x language.now b index.now at entry first last l ts) }
-    ensures { (x b : List ℕ) (l : Language) (ts : Codes) → AlongRow x language.now b index.now at entry first last l ts
-        → Leads x language.now b index.now l (argument_after (slice first last language.now) ts (number - 1) at) result }
+) -> Option<BlockAt>
+    requires { (0 < number) × KindsIn language.now operands.first operands.last
+        × ((x : List ℕ) × (b : List ℕ) × (l : Language) × (ts : Codes) × AlongRow x language.now b index.now operands.start entry operands.first operands.last l ts) }
+    ensures { (x b : List ℕ) (l : Language) (ts : Codes) → AlongRow x language.now b index.now operands.start entry operands.first operands.last l ts
+        → Leads x language.now b index.now l (argument_after (slice operands.first operands.last language.now) ts (number - 1) operands.start) result }
 {
-    let mut q = first;
-    let mut to = at;
+    let mut start = operands.start;
     let mut p = entry;
     let mut left = number;
-    while q < last {
+    for q in operands.first..operands.last {
         if left == 1 {
-            return Step::To(to, language[q], p);
+            return Some(BlockAt {
+                start,
+                kind: language[q],
+                entry: p,
+            });
         }
-        to += pair_in(index, p + 2);
-        p = entry_from(index, p, to);
+        start += pair_in(index, p + 2);
+        p = entry_from(index, p, start);
         left -= 1;
-        q += 1;
     }
-    Step::Nowhere
+    None
 }
 
-// The argument of a number, counted from 1, of the tree of a kind that starts at a position.
+// The argument of a number, counted from 1, of a block.
 fn argument(
     language: &[u8],
     places: &[u16],
-    kind: u8,
     tree: &[u8],
     index: &[u8],
-    at: usize,
-    entry: usize,
+    block: BlockAt,
     number: u8,
-) -> Step
-    requires { (l : Language) × (t : Code) × Along places.now language.now tree.now index.now at kind entry l t }
-    ensures { (l : Language) (t : Code) → Along places.now language.now tree.now index.now at kind entry l t
-        → Leads places.now language.now tree.now index.now l (argument_of l at t number) result }
+) -> Option<BlockAt>
+    requires { (l : Language) × (t : Code) × Along places.now language.now tree.now index.now block.start block.kind block.entry l t }
+    ensures { (l : Language) (t : Code) → Along places.now language.now tree.now index.now block.start block.kind block.entry l t
+        → Leads places.now language.now tree.now index.now l (argument_of l block.start t number) result }
 {
     if number == 0 {
-        return Step::Nowhere;
+        return None;
     }
-    let operands = operands_at(language, places, kind, tree, at);
-    argument_among(
-        language,
-        operands.first,
-        operands.last,
-        index,
-        operands.start,
-        entry + ENTRY,
-        number,
-    )
+    let operands = operands_at(language, places, block.kind, tree, block.start);
+    argument_among(language, operands, index, block.entry + ENTRY, number)
 }
 
-// The block at a path of the whole tree, which is of a kind and has the index; `seen` is the set of kinds that may be seen.
+// The block at a path of the whole tree, which is of a kind and has the index: 21 where there is none, 25 where it or one on the way
+// is not of the kinds that may be seen, which are the set `seen`.
 pub fn descend(
     language: &[u8],
     places: &[u16],
@@ -96,36 +86,24 @@ pub fn descend(
     index: &[u8],
     path: &[u8],
     seen: u32,
-) -> Step
+) -> Result<BlockAt, Reason>
     requires { (l : Language) × (t : Code) × Along places.now language.now tree.now index.now 0 kind 0 l t }
     ensures { (l : Language) (t : Code) (sees : ℕ → Bool) → Along places.now language.now tree.now index.now 0 kind 0 l t → SetOf seen sees
         → Ends places.now language.now tree.now index.now l (block_at sees l path.now (block_of 0 kind t)) result }
 {
-    let mut at = 0;
-    let mut of = kind;
-    let mut p = 0;
-    let mut i = 0;
-    while i < path.len() {
-        if !in_set(seen, of) {
-            return Step::Unseen;
+    let mut block = BlockAt {
+        start: 0,
+        kind,
+        entry: 0,
+    };
+    for &number in path {
+        if !in_set(seen, block.kind) {
+            return Err(Reason::Hidden);
         }
-        match argument(language, places, of, tree, index, at, p, path[i]) {
-            Step::To(start, next, entry) => {
-                at = start;
-                of = next;
-                p = entry;
-            }
-            Step::Nowhere => {
-                return Step::Nowhere;
-            }
-            Step::Unseen => {
-                return Step::Unseen;
-            }
-        }
-        i += 1;
+        block = argument(language, places, tree, index, block, number).ok_or(Reason::NoBlock)?;
     }
-    if !in_set(seen, of) {
-        return Step::Unseen;
+    if !in_set(seen, block.kind) {
+        return Err(Reason::Hidden);
     }
-    Step::To(at, of, p)
+    Ok(block)
 }

@@ -1,4 +1,5 @@
 -- Entries of the old index put at their new places: a law for each return and turn of the functions of moves.rt.
+use Rattle.std.specs.Prelude.{None, Option, Some}
 use Prim.Native.Nat.{ℕ, ◌+◌, ◌-◌, ◌<◌, ◌≤◌}
 use mathlib.Core.Path.{◌≡◌, refl, sym, ap, ◌∙◌}
 use mathlib.Core.List.{List, [], ◌∷◌, ◌++◌, map, append_assoc, append-nil}
@@ -9,8 +10,6 @@ use borrow.Author.Tests.{lt-ltb, le-ltb, le-leb, lt-leb}
 use Rattle.format_fields.specs.Fields.{pair_at}
 use Rattle.format_fields.specs.Lists.{concat_map}
 use Rattle.format_fields.specs.Inner.Writing.{spliced, Stores}
-use Rattle.format_fields.specs.declared.copy.Stored.{Stored}
-use Rattle.format_fields.specs.declared.copy.Stored.TheVariants.{To, Full}
 use Rattle.format_fields.proofs.Splices.{splice_splice, nothing_spliced}
 use Rattle.format_language.specs.Language.{Language}
 use Rattle.tree_reader.specs.Code.{Code}
@@ -23,7 +22,7 @@ use Rattle.tree_index.proofs.Starts.{no_entries, entries_long}
 use Rattle.tree_edit.specs.Inner.Moving.{moved, Movable, Part, Fits, Rewrites, moved_spans}
 
 -- move_entry
-module _ (start old new : ℕ) (i o o' : List ℕ) (at n from z : ℕ) (ef : from ≡ pair_at i at) (ez : z ≡ pair_at i (at + 2)) where
+module _ (start old new : ℕ) (i o o' : List ℕ) (at n : ℕ) {from z : ℕ} (ef : from ≡ pair_at i at) (ez : z ≡ pair_at i (at + 2)) where
   pub put_behind : start + old ≤ from → o' ≡ spliced o n (entry (span (from + new - old) z)) → o' ≡ spliced o n (entry (moved start old new (span (pair_at i at) (pair_at i (at + 2)))))
   unfolding moved
   put_behind h e = rw (← ef, ← ez, le-leb (start + old) from h) e
@@ -56,27 +55,23 @@ unfolding entries concat_map
 no_more v = append-nil v
 
 -- move_entries: the entries that are still to be put, and what was put.
-pub record Moving (i o o' : List ℕ) (from stop start old new n p m : ℕ) (l : List Span) : Type 0 where
+pub record Moving (i o o' : List ℕ) (from stop start old new n p : ℕ) (l : List Span) : Type 0 where
   pub left : List Span
   pub dealt : List ℕ
   pub part : Part i p stop left
   pub all : entries (map (moved start old new) l) ≡ dealt ++ entries (map (moved start old new) left)
   pub put : o' ≡ spliced o n dealt
-  pub end : m ≡ n + length dealt
-  pub room : m + (stop - p) ≡ n + (stop - from)
-  pub low : from ≤ p
+  pub end : p ≡ from + length dealt
   pub movable : (top : ℕ) → Movable start old top l → Movable start old top left
 
-pub move_begin : (i o : List ℕ) (from stop start old new n : ℕ) (l : List Span) → Part i from stop l → Moving i o o from stop start old new n from n l
-move_begin i o from stop start old new n l h = record {
+pub move_begin : {i o : List ℕ} {from stop start old new n : ℕ} {l : List Span} → Part i from stop l → Moving i o o from stop start old new n from l
+move_begin {i} {o} {from} {stop} {start} {old} {new} {n} {l} h = record {
   left = l;
   dealt = [];
   part = h;
   all = refl;
   put = nothing_spliced o n;
   end = omega arith;
-  room = refl;
-  low = omega arith;
   movable = λ top q. q;
 }
 
@@ -108,16 +103,27 @@ first_of i p stop (span s z ∷ others) h k =
       room = omega arith;
     }
 
-module _ (i o o' : List ℕ) (from stop start old new n p m : ℕ) (l : List Span) (w : Moving i o o' from stop start old new n p m l) where
+module _ {i o o' : List ℕ} {from stop start old new n p : ℕ} {l : List Span} (w : Moving i o o' from stop start old new n p l) where
+  pub move_done : stop ≤ p → o' ≡ spliced o n (entries (map (moved start old new) l))
+  move_done h =
+      let mv = moved start old new in
+      let none : w.left ≡ [] = go w.left w.part in
+      let z : entries (map mv l) ≡ w.dealt = w.all ∙ (ap (λ (v : List Span). w.dealt ++ entries (map mv v)) none ∙ no_more w.dealt) in
+      w.put ∙ ap (spliced o n) (sym z)
+    where
+      go : (left : List Span) → Part i p stop left → left ≡ []
+      go [] q = refl
+      go (span s x ∷ left) q = let e = q.end in absurd (omega (arith, entries_long s x left))
+
   module _ (here : p < stop) where
     pub move_first : First i p stop w.left
     move_first = first_of i p stop w.left w.part here
 
     -- What `move_entry` asks for.
-    pub move_inside : (p + 4 ≤ length i) × (m + 4 ≤ n + (stop - from))
-    move_inside = let r = w.room in let q = move_first.room in (move_first.read.1.inside, omega arith)
+    pub move_inside : (p + 4 ≤ length i) × (p + 4 ≤ stop) × (from ≤ p)
+    move_inside = let d = w.end in (move_first.read.1.inside, move_first.room, omega arith)
 
-    module _ (top : ℕ) (movable : Movable start old top l) (fits : Fits old new top) where
+    module _ {top : ℕ} (movable : Movable start old top l) (fits : Fits old new top) where
       first_movable : (move_first.start + move_first.long ≤ top) × (start < move_first.start + move_first.long → move_first.start < start + old → old ≤ move_first.long)
       first_movable =
           let v : Movable start old top (span move_first.start move_first.long ∷ move_first.others) = rw move_first.is at (w.movable top movable) in
@@ -136,20 +142,18 @@ module _ (i o o' : List ℕ) (from stop start old new n p m : ℕ) (l : List Spa
           let b : move_first.start < start + old = omega (arith, k, r.start) in
           omega (arith, first_movable.1 a b, r.long)
 
-    pub move_next : n + (stop - from) ≤ length o → (o'' : List ℕ) → o'' ≡ spliced o' m (entry (moved start old new (span (pair_at i p) (pair_at i (p + 2)))))
-        → Moving i o o'' from stop start old new n (p + 4) (m + 4) l
-    move_next room o'' e =
+    pub move_next : n + (stop - from) ≤ length o → {o'' : List ℕ} → o'' ≡ spliced o' (n + (p - from)) (entry (moved start old new (span (pair_at i p) (pair_at i (p + 2)))))
+        → Moving i o o'' from stop start old new n (p + 4) l
+    move_next room {o''} e =
         let f = move_first in
         let r = f.read.1 in
         let mv = moved start old new in
         let one = entry (mv (span f.start f.long)) in
         let four = moved_long start old new (span f.start f.long) in
-        let e' : o'' ≡ spliced o' m one = e ∙ (ap (λ (x : ℕ). spliced o' m (entry (mv (span x (pair_at i (p + 2)))))) r.start ∙ ap (λ (x : ℕ). spliced o' m (entry (mv (span f.start x)))) r.long) in
-        let q = w.room in
-        let d = w.end in
-        let t = f.room in
-        let fit : n + length w.dealt ≤ length o = omega arith in
-        let lw = w.low in
+        let m : n + (p - from) ≡ n + length w.dealt = omega (arith, w.end) in
+        let e' : o'' ≡ spliced o' (n + (p - from)) one =
+        e ∙ (ap (λ (x : ℕ). spliced o' (n + (p - from)) (entry (mv (span x (pair_at i (p + 2)))))) r.start ∙ ap (λ (x : ℕ). spliced o' (n + (p - from)) (entry (mv (span f.start x)))) r.long) in
+        let fit : n + length w.dealt ≤ length o = omega (arith, w.end, f.room) in
         record {
           left = f.others;
           dealt = w.dealt ++ one;
@@ -158,30 +162,17 @@ module _ (i o o' : List ℕ) (from stop start old new n p m : ℕ) (l : List Spa
               w.all ∙ (ap (λ (v : List Span). w.dealt ++ entries (map mv v)) f.is
               ∙ (ap (λ (v : List ℕ). w.dealt ++ v) (entries_cons (mv (span f.start f.long)) (map mv f.others))
               ∙ sym (append_assoc w.dealt one (entries (map mv f.others)))));
-          put = e' ∙ (ap (λ (v : List ℕ). spliced v m one) w.put ∙ (ap (λ (j : ℕ). spliced (spliced o n w.dealt) j one) d ∙ splice_splice o n w.dealt fit one));
-          end = omega (arith, length-append w.dealt one, four);
-          room = omega arith;
-          low = omega arith;
+          put = e' ∙ (ap (λ (v : List ℕ). spliced v (n + (p - from)) one) w.put ∙ (ap (λ (j : ℕ). spliced (spliced o n w.dealt) j one) m ∙ splice_splice o n w.dealt fit one));
+          end = omega (arith, w.end, length-append w.dealt one, four);
           movable = λ top y.
               let v : Movable start old top (span f.start f.long ∷ f.others) = rw f.is at (w.movable top y) in
               v.2;
         }
 
-  pub move_done : stop ≤ p → o' ≡ spliced o n (entries (map (moved start old new) l))
-  move_done h =
-      let mv = moved start old new in
-      let none : w.left ≡ [] = go w.left w.part in
-      let z : entries (map mv l) ≡ w.dealt = w.all ∙ (ap (λ (v : List Span). w.dealt ++ entries (map mv v)) none ∙ no_more w.dealt) in
-      w.put ∙ ap (spliced o n) (sym z)
-    where
-      go : (left : List Span) → Part i p stop left → left ≡ []
-      go [] q = refl
-      go (span s x ∷ left) q = let e = q.end in absurd (omega (arith, entries_long s x left))
-
 -- put_plan
-stores_fit : (v o o' : List ℕ) (n : ℕ) (r : Stored) → Stores v o o' n r → n + length v ≤ length o → o' ≡ spliced o n v
-stores_fit v o o' n (To m) w h = (w.done m refl).bytes
-stores_fit v o o' n Full w h = absurd (omega (arith, w.full refl))
+stores_fit : (v o o' : List ℕ) (n : ℕ) (r : Option ℕ) → Stores v o o' n r → n + length v ≤ length o → o' ≡ spliced o n v
+stores_fit v o o' n (Some m) w h = (w.done m refl).bytes
+stores_fit v o o' n None w h = absurd (omega (arith, w.full refl))
 
 module _ (b : List ℕ) (start stop : ℕ) (block o o₁ o₂ : List ℕ) (rise : start ≤ stop) (inside : stop ≤ length b)
     (room : start + length block + (length b - stop) ≤ length o) where
@@ -194,7 +185,7 @@ module _ (b : List ℕ) (start stop : ℕ) (block o o₁ o₂ : List ℕ) (rise 
   last_slice : slice stop (length b) b ≡ drop stop b
   last_slice = ap (drop stop) (take-length b)
 
-  pub plan_put : (r r' : Stored) → Stores (slice 0 start b ++ slice 0 (length block) block) o o₁ 0 r → length o₁ ≡ length o
+  pub plan_put : (r r' : Option ℕ) → Stores (slice 0 start b ++ slice 0 (length block) block) o o₁ 0 r → length o₁ ≡ length o
       → Stores (slice stop (length b) b) o₁ o₂ (start + length block) r' → o₂ ≡ spliced o 0 (take start b ++ (block ++ drop stop b))
   plan_put r r' w long v =
       let n : length (take start b) ≡ start = length-take-le start b (omega arith) in
@@ -210,7 +201,7 @@ module _ (b : List ℕ) (start stop : ℕ) (block o o₁ o₂ : List ℕ) (rise 
       ∙ (splice_splice o 0 (take start b ++ block) (omega arith) (drop stop b) ∙ ap (spliced o 0) (append_assoc (take start b) block (drop stop b)))))
 
 -- put_index
-module _ (x s block i : List ℕ) (of start old top p q : ℕ) (l : Language) (a u : Code) (front back : List Span)
+module _ {x s block i : List ℕ} {of start old top p q : ℕ} {l : Language} {a u : Code} {front back : List Span}
     (w : Rewrites x s block i of start old top p q l a u front back) where
   all_entries : i ≡ entries front ++ (entries (spans start a) ++ entries back)
   all_entries =
@@ -272,12 +263,12 @@ module _ (x s block i : List ℕ) (of start old top p q : ℕ) (l : Language) (a
       let b = w.fits.before in
       (omega arith, omega arith, omega arith, omega arith, omega arith)
 
-  module _ (o o₁ o₂ o₃ : List ℕ) (room : length (entries (moved_spans start old u front back)) ≤ length o) (n m : ℕ) (en : n ≡ length block) where
-    pub index_put : o₁ ≡ spliced o 0 (entries (map (moved start old n) front)) → length o₁ ≡ length o
+  module _ (o : List ℕ) {o₁ o₂ o₃ : List ℕ} (room : length (entries (moved_spans start old u front back)) ≤ length o) {m : ℕ} where
+    pub index_put : o₁ ≡ spliced o 0 (entries (map (moved start old (length block)) front)) → length o₁ ≡ length o
         → (m ≡ p + length (entries (spans start u))) × (m ≤ length o₁ → o₂ ≡ spliced o₁ p (entries (spans start u))) → length o₂ ≡ length o₁
-        → o₃ ≡ spliced o₂ m (entries (map (moved start old n) back)) → o₃ ≡ spliced o 0 (entries (moved_spans start old u front back))
+        → o₃ ≡ spliced o₂ m (entries (map (moved start old (length block)) back)) → o₃ ≡ spliced o 0 (entries (moved_spans start old u front back))
     index_put e₁ l₁ e₂ l₂ e₃ =
-        let size-u : n ≡ size u = en ∙ w.whole in
+        let size-u : length block ≡ size u = w.whole in
         let mv = moved start old (size u) in
         let f₁ : o₁ ≡ spliced o 0 (entries (map mv front)) = e₁ ∙ ap (λ (j : ℕ). spliced o 0 (entries (map (moved start old j) front))) size-u in
         let f₃ : o₃ ≡ spliced o₂ m (entries (map mv back)) = e₃ ∙ ap (λ (j : ℕ). spliced o₂ m (entries (map (moved start old j) back))) size-u in

@@ -1,4 +1,8 @@
 -- The edit by the old plan and its index: a law for each return of the functions of edit.rt.
+use Rattle.std.specs.Prelude.{Err, Ok}
+use Rattle.std.specs.Prelude.{Result as Answered}
+use Rattle.tree_reader.specs.declared.node.ReadError.{ReadError}
+use Rattle.tree_reader.specs.declared.node.ReadError.TheVariants.{Deep, Broken}
 use Prim.Native.Nat.{ℕ, ◌+◌, ◌-◌, ◌<◌, ◌≤◌}
 use mathlib.Core.Path.{◌≡◌, refl, sym, ap, subst, ◌∙◌}
 use mathlib.Core.Bool.{Bool, true, false}
@@ -11,9 +15,8 @@ use borrow.Author.Tests.{lt-ltb, le-ltb}
 use Rattle.format_fields.specs.Fields.{pair_at}
 use Rattle.format_fields.specs.Inner.Writing.{spliced}
 use Rattle.outcome.specs.Outcome.{Result, value, refused, ◌>>=◌, number_of, length_of}
-use Rattle.outcome.specs.declared.Outcome.TheVariants.{Accepted, Refused}
 use Rattle.outcome.specs.declared.Reason.{Reason}
-use Rattle.outcome.specs.declared.Reason.TheVariants.{OutputTooShort, NotIndexed, NoBlock, Hidden, IllegalTree, TooDeep}
+use Rattle.outcome.specs.declared.Reason.TheVariants.{OutputTooShort, NotIndexed, IllegalTree}
 use Rattle.format_fields.proofs.Codec.{bytes_from}
 use Rattle.format_fields.proofs.Split.{front}
 use Rattle.format_language.specs.Language.{Language}
@@ -21,43 +24,37 @@ use Rattle.tree_reader.specs.Code.{Code}
 use Rattle.tree_reader.specs.Syntax as Meant
 use Rattle.tree_reader.specs.Syntax.{write, tree}
 use Rattle.tree_reader.specs.Operations.{tree_levels, whole_tree}
-use Rattle.tree_reader.specs.declared.node.Read.{Read}
-use Rattle.tree_reader.specs.declared.node.Read.TheVariants.{End, Deep, Broken}
 use Rattle.tree_reader.specs.Inner.Index.{Ready}
-use Rattle.tree_reader.specs.Inner.Positions.{EndsBy, rest_at, rest_of, rest, deep, broken}
+use Rattle.tree_reader.specs.Inner.Positions.{EndsBy, refusal_of, rest_at, rest_of, Read}
 use Rattle.tree_reader.proofs.Members.{in_below}
 use Rattle.tree_reader.proofs.Sound.{read_done}
+use Rattle.tree_reader.proofs.Meaning.{done_of, deep_of, broken_of}
 use Rattle.tree_index.specs.Spans.{Span, span, size, spans, entries, index_of}
 use Rattle.tree_index.specs.Operations.{longest, is_long}
 use Rattle.tree_index.specs.Inner.Marking.{last_place}
 use Rattle.tree_index.specs.Inner.Starts.{Behind, Splits}
-use Rattle.tree_index.proofs.Pairs.{Entry}
 use Rattle.tree_index.proofs.Walking.{entries_append, entries_few}
 use Rattle.tree_index.proofs.Starts.{own_span, spans_below, entered_own}
 use Rattle.tree_index.proofs.Building.{put_first}
-use Rattle.tree_block.specs.Blocks.{Block, block_of, Reached, nowhere, block_at, every_kind}
+use Rattle.tree_block.specs.Blocks.{Block, block_of, reached, block_at, every_kind}
 use Rattle.tree_block.specs.Operations.{found}
 use Rattle.tree_block.proofs.Reaching.{seen_reached}
-use Rattle.tree_block.specs.Inner.Descent.{Ends}
-use Rattle.tree_block.specs.declared.descent.Step.{Step}
-use Rattle.tree_block.specs.declared.descent.Step.TheVariants.{To, Nowhere, Unseen}
+use Rattle.tree_block.specs.declared.show.Spot.{Spot}
+use Rattle.tree_block.specs.Inner.Descent.{Along}
 use Rattle.tree_edit.specs.Plans.{replace_at}
 use Rattle.tree_edit.specs.Operations.{new_block, new_plan, in_rooms, Editing}
 use Rattle.tree_edit.specs.Answers.{Hands, EditTold}
-use Rattle.tree_edit.specs.Inner.Moving.{Movable, Parted, Rewrites, moved_spans, Replaces, Reaches, Owns, Gives}
+use Rattle.tree_edit.specs.Inner.Moving.{Movable, Parted, Rewrites, moved_spans, Replaces, Reaches, Owns, plan_in, block_in, path_in, Gives}
 use Rattle.tree_edit.specs.declared.edit.Edited.{Edited}
+use Rattle.tree_edit.specs.declared.edit.Lengths.{Lengths}
 use Rattle.tree_edit.proofs.Replacing.{Moved, around, edited_moved, replaced}
 use Rattle.tree_edit.proofs.Entries.{new_long, parts_room}
 
--- A refusal.
-abbrev pub Refuses : Reason → Edited → Type 0
-Refuses x r = (r.outcome ≡ Refused x) × (r.indexed ≡ 0)
-
-pub gives_refused : (m : Result Code) (plan index : List ℕ) (x : Reason) (r : Edited) → m ≡ refused x → Refuses x r → Gives m plan plan index index r
-gives_refused m plan index x r e w = rw e (record { outcome = w.0; long = w.1; plan_is = refl; index_is = refl })
+pub gives_refused : (m : Result Code) (plan index : List ℕ) {x : Reason} → m ≡ refused x → Gives m plan plan index index (Err x)
+gives_refused m plan index e = rw e (record { outcome = refl; long = refl; plan_is = refl; index_is = refl })
 
 -- The plan in parts.
-module _ (x s b i path block : List ℕ) (kind of start old : ℕ) (l : Language) (t a u : Code) (w : Replaces x s b i path block kind of start old l t a u) where
+module _ {x s b i path block : List ℕ} {kind of start old : ℕ} {l : Language} {t a u : Code} (w : Replaces x s b i path block kind of start old l t a u) where
   abbrev next : Code
   next = replace_at path u t
 
@@ -124,7 +121,7 @@ module _ (x s b i path block : List ℕ) (kind of start old : ℕ) (l : Language
       let e : spans start a ++ parts.back ≡ span start (size a) ∷ (o.0 ++ parts.back) = ap (λ (v : List Span). v ++ parts.back) o.1 in
       record { is = own_parted.is; below = parts.below; behind = rw e (omega arith) }
 
-  module _ (p : ℕ) (ep : p ≡ 0 + length (entries parts.front)) where
+  module _ {p : ℕ} (ep : p ≡ 0 + length (entries parts.front)) where
     front_long : length i ≡ length (entries parts.front) + length (entries (spans start a ++ parts.back))
     front_long = ap length (own_parted.is ∙ entries_append parts.front (spans start a ++ parts.back)) ∙ length-append (entries parts.front) (entries (spans start a ++ parts.back))
 
@@ -143,14 +140,14 @@ module _ (x s b i path block : List ℕ) (kind of start old : ℕ) (l : Language
           behind = subst (λ (n : ℕ). Behind (start + n) parts.back) (sym w.size_is) parts.behind;
         }
 
-    module _ (q : ℕ) (eq : q ≡ p + length (entries (spans start a))) where
+    module _ {q : ℕ} (eq : q ≡ p + length (entries (spans start a))) where
       pub last_inside : q ≤ length i
       last_inside =
           let n : length (entries (spans start a ++ parts.back)) ≡ length (entries (spans start a)) + length (entries parts.back) =
           ap length (entries_append (spans start a) parts.back) ∙ length-append (entries (spans start a)) (entries parts.back) in
           omega (arith, front_long)
 
-      module _ (z : ℕ) (ez : z ≡ length b - old + length block) (fits : z ≤ longest) where
+      module _ {z : ℕ} (ez : z ≡ length b - old + length block) (fits : z ≤ longest) where
         pub new_fits : start + length block ≤ longest
         new_fits = let h = block_inside in omega arith
 
@@ -174,114 +171,93 @@ module _ (x s b i path block : List ℕ) (kind of start old : ℕ) (l : Language
         plan_room plan h = let k = block_inside in omega arith
 
         -- The length of the new index.
-        module _ (end : ℕ) (ee : end ≡ p + length (entries (spans start u))) where
+        module _ {end : ℕ} (ee : end ≡ p + length (entries (spans start u))) where
           pub length_small : end + (length i - q) < last_place
           length_small =
-              let y = parts_room x s block i of start old (length b) p q l a u parts.front parts.back rewrites
+              let y = parts_room rewrites
               (length (entries (moved_spans start old u parts.front parts.back))) (omega arith) in
               omega (arith, y.3)
 
-          module _ (n : ℕ) (en : n ≡ end + (length i - q)) where
-            pub length_is : n ≡ length (entries (moved_spans start old u parts.front parts.back))
-            length_is = let m = new_long x s block i of start old (length b) p q l a u parts.front parts.back rewrites in omega arith
+          pub length_is : end + (length i - q) ≡ length (entries (moved_spans start old u parts.front parts.back))
+          length_is = let m = new_long rewrites in omega arith
 
-            whole_index : n ≡ length (index_of next)
-            whole_index = length_is ∙ sym (ap length index_is)
+          whole_index : end + (length i - q) ≡ length (index_of next)
+          whole_index = length_is ∙ sym (ap length index_is)
 
-            pub plan_too_short : (plan index : List ℕ) (r : Edited) → length plan < z → Refuses OutputTooShort r
-                → Gives (in_rooms (length plan) (length index) next) plan plan index index r
-            plan_too_short plan index r h c =
+          plan_fits : (plan : List ℕ) → z ≤ length plan → ltb (length plan) (length (write tree next)) ≡ false
+          plan_fits plan h = le-ltb (length plan) (length (write tree next)) (omega (arith, new_size))
+
+          module _ (plan index : List ℕ) where
+            pub plan_too_short : length plan < z → Gives (in_rooms (length plan) (length index) next) plan plan index index (Err OutputTooShort)
+            plan_too_short h =
                 let y : ltb (length plan) (length (write tree next)) ≡ true = lt-ltb (length plan) (length (write tree next)) (omega (arith, new_size)) in
-                gives_refused (in_rooms (length plan) (length index) next) plan index OutputTooShort r (rw y) c
+                gives_refused (in_rooms (length plan) (length index) next) plan index (rw y refl)
 
-            plan_fits : (plan : List ℕ) → z ≤ length plan → ltb (length plan) (length (write tree next)) ≡ false
-            plan_fits plan h = le-ltb (length plan) (length (write tree next)) (omega (arith, new_size))
-
-            pub index_too_short : (plan index : List ℕ) (r : Edited) → z ≤ length plan → length index < n → Refuses OutputTooShort r
-                → Gives (in_rooms (length plan) (length index) next) plan plan index index r
-            index_too_short plan index r k h c =
+            pub index_too_short : z ≤ length plan → length index < end + (length i - q)
+                → Gives (in_rooms (length plan) (length index) next) plan plan index index (Err OutputTooShort)
+            index_too_short k h =
                 let y : ltb (length index) (length (index_of next)) ≡ true = lt-ltb (length index) (length (index_of next)) (omega (arith, whole_index)) in
-                gives_refused (in_rooms (length plan) (length index) next) plan index OutputTooShort r (rw (plan_fits plan k, y)) c
+                gives_refused (in_rooms (length plan) (length index) next) plan index (rw (plan_fits plan k, y) refl)
 
-            pub both_put : (plan index : List ℕ) → z ≤ length plan → n ≤ length index → (plan' index' : List ℕ)
+            pub both_put : z ≤ length plan → end + (length i - q) ≤ length index → {plan' index' : List ℕ}
                 → plan' ≡ spliced plan 0 (take start b ++ (block ++ drop (start + old) b))
                 → index' ≡ spliced index 0 (entries (moved_spans start old u parts.front parts.back))
-                → Gives (in_rooms (length plan) (length index) next) plan plan' index index' (record { outcome = Accepted z; indexed = n })
-            both_put plan index k h plan' index' f g =
+                → Gives (in_rooms (length plan) (length index) next) plan plan' index index' (Ok (record { plan = z; index = end + (length i - q) }))
+            both_put k h f g =
                 let y : ltb (length index) (length (index_of next)) ≡ false = le-ltb (length index) (length (index_of next)) (omega (arith, whole_index)) in
                 rw (plan_fits plan k, y) (record {
-                  outcome = ap Accepted (ez ∙ sym new_size);
+                  outcome = ap Ok (ez ∙ sym new_size);
                   long = whole_index;
                   plan_is = f ∙ (ap (spliced plan 0) (sym bytes_are) ∙ put_first plan (write tree next));
                   index_is = g ∙ (ap (spliced index 0) (sym index_is) ∙ put_first index (index_of next));
                 })
 
   -- replace
-  module _ (plan index : List ℕ) (z : ℕ) (ez : z ≡ length b - old + length block) where
-    pub plan_too_long : longest < z → (r : Edited) → Refuses NotIndexed r
-        → Gives (new_plan path u t >>= λ v. in_rooms (length plan) (length index) v) plan plan index index r
-    plan_too_long h r c =
+  module _ (plan index : List ℕ) where
+    pub plan_too_long : longest < length b - old + length block → Gives (plan_in (length plan) (length index) path u t) plan plan index index (Err NotIndexed)
+    plan_too_long h =
         let y : is_long (write tree next) ≡ true = lt-ltb longest (length (write tree next)) (omega (arith, new_size)) in
-        gives_refused (new_plan path u t >>= λ v. in_rooms (length plan) (length index) v) plan index NotIndexed r (rw y) c
+        gives_refused (plan_in (length plan) (length index) path u t) plan index (rw y refl)
 
-    pub plan_given : z ≤ longest → (plan' index' : List ℕ) (r : Edited) → Gives (in_rooms (length plan) (length index) next) plan plan' index index' r
-        → Gives (new_plan path u t >>= λ v. in_rooms (length plan) (length index) v) plan plan' index index' r
-    plan_given h plan' index' r c =
+    pub plan_given : length b - old + length block ≤ longest → {plan' index' : List ℕ} (r : Answered Lengths Reason)
+        → Gives (in_rooms (length plan) (length index) next) plan plan' index index' r → Gives (plan_in (length plan) (length index) path u t) plan plan' index index' r
+    plan_given h r c =
         let y : is_long (write tree next) ≡ false = le-ltb longest (length (write tree next)) (omega (arith, new_size)) in
         rw y c
 
--- replace_block: what was read of the new block.
-done_of : (o : Meant.Read Code) (v : List ℕ) → rest v ≡ rest_of o → (u : Code) × (o ≡ Meant.done u v)
-done_of (Meant.done u r) v e = let q : r ≡ v = cc in (u, ap (Meant.done u) q)
-done_of Meant.deep v e = let z : ◌≡◌ {A = ℕ} 0 1 = cc in absurd (omega arith)
-done_of Meant.broken v e = let z : ◌≡◌ {A = ℕ} 0 1 = cc in absurd (omega arith)
-
-deep_of : (o : Meant.Read Code) → deep ≡ rest_of o → o ≡ Meant.deep
-deep_of (Meant.done u r) e = let z : ◌≡◌ {A = ℕ} 0 1 = cc in absurd (omega arith)
-deep_of Meant.deep e = refl
-deep_of Meant.broken e = let z : ◌≡◌ {A = ℕ} 0 1 = cc in absurd (omega arith)
-
-broken_of : (o : Meant.Read Code) → broken ≡ rest_of o → o ≡ Meant.broken
-broken_of (Meant.done u r) e = let z : ◌≡◌ {A = ℕ} 0 1 = cc in absurd (omega arith)
-broken_of Meant.deep e = let z : ◌≡◌ {A = ℕ} 0 1 = cc in absurd (omega arith)
-broken_of Meant.broken e = refl
-
-module _ (x s b i path block : List ℕ) (kind of start old numbers : ℕ) (l : Language) (t a : Code) (w : Reaches x s b i path kind of start old numbers l t a) where
+-- replace_block
+module _ {x s b i path : List ℕ} {kind of start old numbers : ℕ} {l : Language} {t a : Code} (w : Reaches x s b i path kind of start old numbers l t a) (block : List ℕ) where
   pub block_ready : Ready x s of block 0
   block_ready = record { sound = w.index_of.indexed.sound; kind = in_below s of l w.index_of.indexed.entries w.known; inside = omega arith }
 
+  abbrev here : Block
+  here = block_of start of a
+
   -- What is left to be decided.
-  abbrev After : (plan index : List ℕ) → Result Code → Result Code
-  After plan index o = (o >>= λ u. new_plan path u t) >>= λ v. in_rooms (length plan) (length index) v
+  abbrev After : (plan index : List ℕ) → Meant.Read Code → Result Code
+  After plan index o = (whole_tree o >>= λ u. new_plan path u t) >>= λ v. in_rooms (length plan) (length index) v
 
-  module _ (n : ℕ) (en : n ≡ 64 - numbers) (r : Read) (er : rest_at block r ≡ rest_of (Meant.read tree l [] n of block)) where
-    abbrev what : Meant.Read Code
-    what = Meant.read tree l [] (tree_levels - length path) of block
+  abbrev what : Meant.Read Code
+  what = Meant.read tree l [] (tree_levels - length path) of block
 
-    read_is : rest_at block r ≡ rest_of what
-    read_is = er ∙ ap (λ (m : ℕ). rest_of (Meant.read tree l [] m of block)) (en ∙ ap (λ (m : ℕ). 64 - m) w.numbers_are)
+  module _ {n : ℕ} (en : n ≡ 64 - numbers) (r : Read) (er : rest_at block r ≡ rest_of (Meant.read tree l [] n of block)) where
+    what_is : rest_of what ≡ rest_at block r
+    what_is = sym (er ∙ ap (λ (m : ℕ). rest_of (Meant.read tree l [] m of block)) (en ∙ ap (λ (m : ℕ). 64 - m) w.numbers_are))
 
-    pub block_deep : (plan index : List ℕ) → r ≡ Deep → (e : Edited) → Refuses TooDeep e → Gives (After plan index (new_block l path (block_of start of a) block)) plan plan index index e
-    block_deep plan index q e c =
-        let z : what ≡ Meant.deep = deep_of what (sym (ap (rest_at block) q) ∙ read_is) in
-        gives_refused (After plan index (whole_tree what)) plan index TooDeep e (ap (λ (o : Meant.Read Code). After plan index (whole_tree o)) z) c
+    module _ (plan index : List ℕ) where
+      pub block_refused : (e : ReadError) → r ≡ Err e → Gives (block_in (length plan) (length index) l path here block t) plan plan index index (Err (refusal_of e))
+      block_refused Deep q = gives_refused (After plan index what) plan index (ap (After plan index) (deep_of what (what_is ∙ ap (rest_at block) q)))
+      block_refused Broken q = gives_refused (After plan index what) plan index (ap (After plan index) (broken_of what (what_is ∙ ap (rest_at block) q)))
 
-    pub block_broken : (plan index : List ℕ) → r ≡ Broken → (e : Edited) → Refuses IllegalTree e → Gives (After plan index (new_block l path (block_of start of a) block)) plan plan index index e
-    block_broken plan index q e c =
-        let z : what ≡ Meant.broken = broken_of what (sym (ap (rest_at block) q) ∙ read_is) in
-        gives_refused (After plan index (whole_tree what)) plan index IllegalTree e (ap (λ (o : Meant.Read Code). After plan index (whole_tree o)) z) c
-
-    module _ (e : ℕ) (q : r ≡ End e) (inside : EndsBy (length block) r) where
+    module _ {e : ℕ} (q : r ≡ Ok e) (inside : EndsBy (length block) r) where
       pub done_is : (u : Code) × (what ≡ Meant.done u (drop e block))
-      done_is = done_of what (drop e block) (sym (ap (rest_at block) q) ∙ read_is)
+      done_is = done_of what (drop e block) (what_is ∙ ap (rest_at block) q)
 
-      pub block_left : (plan index : List ℕ) → (e ≡ length block → ⊥) → (d : Edited) → Refuses IllegalTree d
-          → Gives (After plan index (new_block l path (block_of start of a) block)) plan plan index index d
-      block_left plan index h d c =
+      pub block_left : (plan index : List ℕ) → (e ≡ length block → ⊥) → Gives (block_in (length plan) (length index) l path here block t) plan plan index index (Err IllegalTree)
+      block_left plan index h =
           let j : e ≤ length block = rw q at inside in
           let g : e < length block = omega arith in
-          gives_refused (After plan index (whole_tree what)) plan index IllegalTree d
-          (ap (λ (o : Meant.Read Code). After plan index (whole_tree o)) (done_is.1 ∙ ap (Meant.done done_is.0) (front block e g))) c
+          gives_refused (After plan index what) plan index (ap (After plan index) (done_is.1 ∙ ap (Meant.done done_is.0) (front block e g)))
 
       module _ (all : e ≡ length block) where
         whole_is : what ≡ Meant.done done_is.0 []
@@ -304,52 +280,42 @@ module _ (x s b i path block : List ℕ) (kind of start old numbers : ℕ) (l : 
               new = y ∙ append-nil (write tree done_is.0);
             }
 
-        pub block_given : (plan index plan' index' : List ℕ) (d : Edited) → Gives (new_plan path done_is.0 t >>= λ v. in_rooms (length plan) (length index) v) plan plan' index index' d
-            → Gives (After plan index (new_block l path (block_of start of a) block)) plan plan' index index' d
-        block_given plan index plan' index' d c =
-            let z : new_block l path (block_of start of a) block ≡ value done_is.0 = ap whole_tree whole_is in
+        pub block_given : (plan index : List ℕ) {plan' index' : List ℕ} (d : Answered Lengths Reason) → Gives (plan_in (length plan) (length index) path done_is.0 t) plan plan' index index' d
+            → Gives (block_in (length plan) (length index) l path here block t) plan plan' index index' d
+        block_given plan index d c =
+            let z : new_block l path here block ≡ value done_is.0 = ap whole_tree whole_is in
             rw z c
 
 -- edit_legal
-module _ (x s b i path : List ℕ) (kind : ℕ) (l : Language) (t : Code) (sees : ℕ → Bool) (w : Owns x s b i kind l t)
-    (r : Step) (er : Ends x s b i l (block_at sees l path (block_of 0 kind t)) r) where
-  abbrev Whole : (block plan index : List ℕ) → Result Block → Result Code
-  Whole block plan index o = (o >>= λ c. new_block l path c block >>= λ u. new_plan path u t) >>= λ v. in_rooms (length plan) (length index) v
+module _ {x s b i : List ℕ} {kind : ℕ} {l : Language} {t : Code} (w : Owns x s b i kind l t) (sees : ℕ → Bool) (path : List ℕ) where
+  pub path_refused : (block plan index : List ℕ) {e : Reason} → found (block_at sees l path (block_of 0 kind t)) ≡ refused e
+      → Gives (path_in (length plan) (length index) l path (block_at sees l path (block_of 0 kind t)) block t) plan plan index index (Err e)
+  path_refused block plan index {e} q =
+      let Whole : Result Block → Result Code = λ o. (o >>= λ c. new_block l path c block >>= λ u. new_plan path u t) >>= λ v. in_rooms (length plan) (length index) v in
+      gives_refused (Whole (found (block_at sees l path (block_of 0 kind t)))) plan index (ap Whole q)
 
-  pub path_nowhere : (block plan index : List ℕ) → r ≡ Nowhere → (e : Edited) → Refuses NoBlock e
-      → Gives (Whole block plan index (found (block_at sees l path (block_of 0 kind t)))) plan plan index index e
-  path_nowhere block plan index q e c =
-      gives_refused (Whole block plan index (found (block_at sees l path (block_of 0 kind t)))) plan index NoBlock e
-      (ap (λ (o : Reached). Whole block plan index (found o)) (er.nowhere q)) c
+  -- The block to which the path leads, and where it lies.
+  module _ {start of entry : ℕ} {a : Code} (leads : block_at sees l path (block_of 0 kind t) ≡ reached (block_of start of a)) (there : Along x s b i start of entry l a)
+      {r : Spot} (es : r.start ≡ start) (ez : r.size ≡ pair_at i (entry + 2)) (ek : r.kind ≡ of) where
+    landed : block_at sees l path (block_of 0 kind t) ≡ reached (block_of r.start r.kind a)
+    landed = rw (es, ek) leads
 
-  pub path_unseen : (block plan index : List ℕ) → r ≡ Unseen → (e : Edited) → Refuses Hidden e
-      → Gives (Whole block plan index (found (block_at sees l path (block_of 0 kind t)))) plan plan index index e
-  path_unseen block plan index q e c =
-      gives_refused (Whole block plan index (found (block_at sees l path (block_of 0 kind t)))) plan index Hidden e
-      (ap (λ (o : Reached). Whole block plan index (found o)) (er.unseen q)) c
+    pub path_reaches : Reaches x s b i path kind r.kind r.start r.size (length path) l t a
+    path_reaches = rw (es, ek) (record {
+      plan = w.plan;
+      own = w.own;
+      short = w.along.short;
+      leads = seen_reached sees l (block_of start of a) path (block_of 0 kind t) leads;
+      size_is = ez ∙ (entered_own i entry start a there.entered).1.long;
+      numbers_are = refl;
+      index_of = there.there.index_of;
+      known = there.there.lies.known;
+    })
 
-  module _ (a k p : ℕ) (q : r ≡ To a k p) where
-    pub path_entry : (v : List ℕ) × Entry i p a (size (er.to a k p q).0) v
-    path_entry = entered_own i p a (er.to a k p q).0 (er.to a k p q).2.entered
-
-    pub path_reaches : (n : ℕ) → n ≡ pair_at i (p + 2) → (m : ℕ) → m ≡ length path → Reaches x s b i path kind k a n m l t (er.to a k p q).0
-    path_reaches n en m em =
-        let z = er.to a k p q in
-        record {
-          plan = w.plan;
-          own = w.own;
-          short = w.along.short;
-          leads = seen_reached sees l (block_of a k z.0) path (block_of 0 kind t) z.1;
-          size_is = en ∙ path_entry.1.long;
-          numbers_are = em;
-          index_of = z.2.there.index_of;
-          known = z.2.there.lies.known;
-        }
-
-    pub path_given : (block plan index plan' index' : List ℕ) (e : Edited)
-        → Gives ((new_block l path (block_of a k (er.to a k p q).0) block >>= λ u. new_plan path u t) >>= λ v. in_rooms (length plan) (length index) v) plan plan' index index' e
-        → Gives (Whole block plan index (found (block_at sees l path (block_of 0 kind t)))) plan plan' index index' e
-    path_given block plan index plan' index' e c = rw (er.to a k p q).1 c
+    pub path_given : (block plan index : List ℕ) {plan' index' : List ℕ} (e : Answered Lengths Reason)
+        → Gives (block_in (length plan) (length index) l path (block_of r.start r.kind a) block t) plan plan' index index' e
+        → Gives (path_in (length plan) (length index) l path (block_at sees l path (block_of 0 kind t)) block t) plan plan' index index' e
+    path_given block plan index e c = rw landed c
 
 -- The answer told by numbers.
 pub tells : (d : Editing) (plan index : List ℕ) (r : Edited) → Hands d plan index r → (n m : ℕ) → n ≡ number_of r.outcome → m ≡ length_of r.outcome

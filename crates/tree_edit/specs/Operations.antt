@@ -1,8 +1,6 @@
 -- The edit of a plan (paper 02, 2026-08; the card by 2026-12).
-use Rattle.std.specs.Prelude.{ℕ, ◌-◌, ◌||◌, List, [], length, ltb}
-use Rattle.outcome.specs.Outcome.{Result, value, refused, refuse_if, ◌>>=◌, output_after}
-use Rattle.outcome.specs.declared.Outcome.{Outcome}
-use Rattle.outcome.specs.declared.Outcome.TheVariants.{Accepted, Refused}
+use Rattle.std.specs.Prelude.{ℕ, ◌-◌, ◌||◌, List, [], length, ltb, Err, Ok}
+use Rattle.outcome.specs.Outcome.{Result, value, refused, refuse_if, ◌>>=◌, output_after, Outcome}
 use Rattle.outcome.specs.declared.Reason.TheVariants.{OutputTooShort, NotIndexed}
 use Rattle.format_language.specs.Language.{Language}
 use Rattle.format_language.specs.LanguageFile.{language_of}
@@ -50,12 +48,12 @@ pub record Editing : Type 0 where
 -- The new plan stands first in one output, its own index in the other. A refusal leaves both as they were.
 abbrev pub handed_back : (plan index : List ℕ) → Result Code → Editing
 handed_back plan index (value t) = record {
-  outcome = Accepted (length (write tree t));
+  outcome = Ok (length (write tree t));
   index_length = length (index_of t);
   plan = output_after plan (value (write tree t));
   index = output_after index (value (index_of t));
 }
-handed_back plan index (refused r) = record { outcome = Refused r; index_length = 0; plan = plan; index = index }
+handed_back plan index (refused r) = record { outcome = Err r; index_length = 0; plan = plan; index = index }
 
 -- The edit, with the outputs as they are lent.
 unfoldable pub edit_tree : (language : List ℕ) (root : ℕ) (bytes index path card block plan plan_index : List ℕ) → Editing

@@ -11,59 +11,46 @@ ghost use Rattle.tree_edit.specs.Inner.Moving.{moved, Movable, Part, Fits, Rewri
 
 use format_fields::bytes::pair_in;
 use format_fields::copy::{put, put_both};
+use tree_block::show::Spot;
 use tree_index::build::write_index;
 use tree_index::entries::{ENTRY, put_entry};
 
-// Puts an entry of the old index where it belongs in the new one. The block starts at `start` and changes its length.
-fn move_entry(
-    index: &[u8],
-    at: usize,
-    start: usize,
-    old: usize,
-    new: usize,
-    out: &mut [u8],
-    n: usize,
-)
-    requires { (at + 4 ≤ length index.now) × (n + 4 ≤ length out.old) × (n < last_place) × (start + old ≤ longest)
-        × Fits old new (pair_at index.now at + pair_at index.now (at + 2))
-        × (start < pair_at index.now at + pair_at index.now (at + 2) → pair_at index.now at < start + old → old ≤ pair_at index.now (at + 2)) }
-    ensures { out.new ≡ spliced out.old n (entry (moved start old new (span (pair_at index.now at) (pair_at index.now (at + 2))))) }
+// A block that starts at `start` changes its length.
+#[derive(Clone, Copy)]
+pub struct Change {
+    pub start: usize,
+    pub old: usize,
+    pub new: usize,
+}
+
+// Puts an entry of the old index where it belongs in the new one.
+fn move_entry(index: &[u8], at: usize, change: Change, out: &mut [u8], n: usize)
+    requires { (at + 4 ≤ length index.now) × (n + 4 ≤ length out.old) × (n < last_place) × (change.start + change.old ≤ longest)
+        × Fits change.old change.new (pair_at index.now at + pair_at index.now (at + 2))
+        × (change.start < pair_at index.now at + pair_at index.now (at + 2) → pair_at index.now at < change.start + change.old → change.old ≤ pair_at index.now (at + 2)) }
+    ensures { out.new ≡ spliced out.old n (entry (moved change.start change.old change.new (span (pair_at index.now at) (pair_at index.now (at + 2))))) }
 {
+    let Change { start, old, new } = change;
     let from = pair_in(index, at);
     let size = pair_in(index, at + 2);
     if start + old <= from {
         put_entry(from + new - old, size, out, n);
-        return;
-    }
-    if start < from + size {
+    } else if start < from + size {
         put_entry(from, size + new - old, out, n);
-        return;
+    } else {
+        put_entry(from, size, out, n);
     }
-    put_entry(from, size, out, n);
 }
 
 // Puts the entries of the old index from one place up to another where they belong in the new one.
-fn move_entries(
-    index: &[u8],
-    from: usize,
-    stop: usize,
-    start: usize,
-    old: usize,
-    new: usize,
-    out: &mut [u8],
-    n: usize,
-)
-    requires { (n + (stop - from) ≤ length out.old) × (n + (stop - from) < last_place) × (start + old ≤ longest)
-        × ((top : ℕ) × (l : List Span) × Part index.now from stop l × Movable start old top l × Fits old new top) }
+fn move_entries(index: &[u8], from: usize, stop: usize, change: Change, out: &mut [u8], n: usize)
+    requires { (n + (stop - from) ≤ length out.old) × (n + (stop - from) < last_place) × (change.start + change.old ≤ longest)
+        × ((top : ℕ) × (l : List Span) × Part index.now from stop l × Movable change.start change.old top l × Fits change.old change.new top) }
     ensures { (l : List Span) → Part index.now from stop l
-        → out.new ≡ spliced out.old n (entries (map (moved start old new) l)) }
+        → out.new ≡ spliced out.old n (entries (map (moved change.start change.old change.new) l)) }
 {
-    let mut p = from;
-    let mut m = n;
-    while p < stop {
-        move_entry(index, p, start, old, new, out, m);
-        p += ENTRY;
-        m += ENTRY;
+    for at in (from..stop).step_by(ENTRY) {
+        move_entry(index, at, change, out, n + (at - from));
     }
 }
 
@@ -72,26 +59,29 @@ fn move_entries(
 pub fn put_index(
     language: &[u8],
     places: &[u16],
-    of: u8,
+    old: Spot,
     block: &[u8],
     index: &[u8],
-    start: usize,
-    old: usize,
     first: usize,
     last: usize,
     out: &mut [u8],
 )
     requires { (top : ℕ) × (l : Language) × (a : Code) × (u : Code) × (front : List Span) × (back : List Span)
-        × Rewrites places.now language.now block.now index.now of start old top first last l a u front back
-        × (length (entries (moved_spans start old u front back)) ≤ length out.old) }
+        × Rewrites places.now language.now block.now index.now old.kind old.start old.size top first last l a u front back
+        × (length (entries (moved_spans old.start old.size u front back)) ≤ length out.old) }
     ensures { (top : ℕ) (l : Language) (a u : Code) (front back : List Span)
-        → Rewrites places.now language.now block.now index.now of start old top first last l a u front back
-        → length (entries (moved_spans start old u front back)) ≤ length out.old
-        → out.new ≡ spliced out.old 0 (entries (moved_spans start old u front back)) }
+        → Rewrites places.now language.now block.now index.now old.kind old.start old.size top first last l a u front back
+        → length (entries (moved_spans old.start old.size u front back)) ≤ length out.old
+        → out.new ≡ spliced out.old 0 (entries (moved_spans old.start old.size u front back)) }
 {
-    move_entries(index, 0, first, start, old, block.len(), out, 0);
-    let m = write_index(language, places, of, block, start, out, first);
-    move_entries(index, last, index.len(), start, old, block.len(), out, m);
+    let change = Change {
+        start: old.start,
+        old: old.size,
+        new: block.len(),
+    };
+    move_entries(index, 0, first, change, out, 0);
+    let m = write_index(language, places, old.kind, block, old.start, out, first);
+    move_entries(index, last, index.len(), change, out, m);
 }
 
 // Puts the new plan: the old one's bytes before the block, the new block, and the old one's bytes from `stop` on.

@@ -1,18 +1,16 @@
 -- The operation that builds an index, and the test of one: a law for each return of the functions of build.rt.
 use Prim.Native.Nat.{ℕ, ◌+◌, ◌*◌, ◌<◌, ◌≤◌}
 use mathlib.Core.Path.{◌≡◌, refl, sym, ap, ◌∙◌}
-use mathlib.Core.Bool.{true, false}
+use mathlib.Core.Bool.{Bool, true, false}
 use mathlib.Core.List.{List, [], ◌∷◌, ◌++◌, append-nil}
 use native.Mathlib.Omega.{arith}
-use lib.ListN.{length, get_or, drop, length-append}
+use Rattle.std.specs.Prelude.{Option, Some, None, MatchOption, Err, Ok}
+use lib.ListN.{length, drop, length-append}
 use lib.Dec.{eqb, ltb}
 use borrow.Author.Tests.{eq-eqb, eqb-true, lt-ltb, le-ltb}
-use Rattle.format_fields.specs.Fields.{pair_at}
 use Rattle.format_fields.specs.Lists.{same_numbers}
 use Rattle.format_fields.specs.Inner.Writing.{spliced}
-use Rattle.outcome.specs.Outcome.{refused, refuse_if, written, output_after}
-use Rattle.outcome.specs.declared.Outcome.{Outcome}
-use Rattle.outcome.specs.declared.Outcome.TheVariants.{Accepted, Refused}
+use Rattle.outcome.specs.Outcome.{refused, refuse_if, written, output_after, Outcome}
 use Rattle.outcome.specs.declared.Reason.{Reason}
 use Rattle.outcome.specs.declared.Reason.TheVariants.{OutputTooShort, NotIndexed}
 use Rattle.format_fields.proofs.Truth.{refuted, same_truth, numbers_equal, equal_numbers}
@@ -31,7 +29,7 @@ use Rattle.tree_index.specs.Inner.Comparing.{Claims, Compares}
 use Rattle.tree_index.specs.declared.walk.Ends.{Ends}
 use Rattle.tree_index.proofs.Lying.{past_inside}
 use Rattle.tree_index.proofs.Checking.{checked_tree}
-use Rattle.tree_index.proofs.Pairs.{entry_length, entry_read, entry_has}
+use Rattle.tree_index.proofs.Pairs.{entry_length, entry_same}
 use Rattle.tree_index.proofs.Walking.{shape_size, shape_spans, entries_cons, entries_few, has_front, has_back, has_both, puts_entry, puts_before}
 use Rattle.tree_index.proofs.Starts.{own_span}
 
@@ -57,10 +55,6 @@ module _ (x s b : List ℕ) (k : ℕ) (l : Language) (t : Code) (f e to : ℕ) (
       rw are (v.end, v.put)
 
 -- is_own
--- A number that is not 0 is above it.
-above : (r : ℕ) → (r ≡ 0 → ⊥) → 0 < r
-above r h = omega arith
-
 empty_rest : (v r : List ℕ) → length (v ++ r) ≡ length v → r ≡ []
 empty_rest v [] e = refl
 empty_rest v (x ∷ r) e = absurd (omega (arith, length-append v (x ∷ r)))
@@ -111,27 +105,23 @@ module _ (i : List ℕ) (t : Code) where
     own_four : 4 ≡ 0 + length own
     own_four = omega (arith, entry_length 0 (size t))
 
-    module _ (y : ℕ) (ey : y ≡ pair_at i (0 + 2)) (r : ℕ) (er : Compares i 4 to p.operands y r) where
-      own_claims : same_numbers i (index_of t) ≡ true → Claims i 4 to p.operands y
+    module _ (z : ℕ) (said : Has i 0 (entry (span 0 z))) where
+      own_claims : same_numbers i (index_of t) ≡ true → Claims i 4 to p.operands z
       own_claims q =
           let h : Has i 0 (own ++ inner) = rw own_are at (own_has q) in
-          let a = has_front i 0 own inner h in
-          let c = entry_read i 0 0 (size t) a.rest a.is in
-          record { has = has_back i 0 own inner h 4 own_four; ends = sym own_end ∙ (sym c.long ∙ sym ey) }
+          record { has = has_back i 0 own inner h 4 own_four; ends = sym own_end ∙ entry_same 0 (size t) z (has_front i 0 own inner h) said }
 
-      pub own_compared : 0 + 4 ≤ length i → ((j : ℕ) → get_or i j 0 < 256) → pair_at i 0 ≡ 0 → eqb r (length i) ≡ same_numbers i (index_of t)
-      own_compared inside bytes start =
-          same_truth (eqb r (length i)) (same_numbers i (index_of t))
+      -- The answer of comparing is the end of the index exactly if the index is the tree's own.
+      pub own_compared : (r : Option ℕ) → Compares i 4 to p.operands z r → (b : Bool) → MatchOption r (b ≡ false) (λ m. b ≡ eqb m (length i))
+          → b ≡ same_numbers i (index_of t)
+      own_compared None h b e = same_truth b (same_numbers i (index_of t)) (λ q. absurd (let f = sym e ∙ q in cc)) (λ q. absurd (h (own_claims q)))
+      own_compared (Some r) h b e =
+          same_truth b (same_numbers i (index_of t))
           (λ q.
-          let n = eqb-true r (length i) q in
-          let g : 0 < r = omega arith in
-          let c = er.same g in
-          let z : pair_at i (0 + 2) ≡ size t = sym ey ∙ (sym c.0.ends ∙ sym own_end) in
-          let h : Has i 0 (entries (spans 0 t)) = rw own_are (has_both i 0 own inner (entry_has i 0 0 (size t) inside bytes start z) 4 own_four c.0.has) in
-          has_own h (omega (arith, c.1, entries_four)))
-          (λ q.
-          let g : 0 < r = above r (λ z. er.other z (own_claims q)) in
-          eq-eqb r (length i) (omega (arith, (er.same g).1, own_long q, entries_four)))
+          let n = eqb-true r (length i) (sym e ∙ q) in
+          let a : z ≡ size t = sym h.0.ends ∙ sym own_end in
+          has_own (rw own_are (has_both i 0 own inner (rw a at said) 4 own_four h.0.has)) (omega (arith, h.1, entries_four)))
+          (λ q. e ∙ eq-eqb r (length i) (omega (arith, h.1, own_long q, entries_four)))
 
 -- What is put at the start of an output.
 pub put_first : (o v : List ℕ) → spliced o 0 v ≡ v ++ drop (length v) o
@@ -145,27 +135,26 @@ legal_room x s b k l t h o n en room =
     omega (arith, entries_few t 0)
 
 module _ (t : Code) (o : List ℕ) (n : ℕ) (en : n ≡ 0 + length (entries (spans 0 t))) where
-  pub legal_short : length o < n → (x : Outcome) → x ≡ Refused OutputTooShort
-      → (x ≡ written (fitted (length o) (index_of t))) × (o ≡ output_after o (fitted (length o) (index_of t)))
+  pub legal_short : length o < n → (Err OutputTooShort ≡ written (fitted (length o) (index_of t))) × (o ≡ output_after o (fitted (length o) (index_of t)))
   unfolding index_of
-  legal_short h x e = let y : ltb (length o) (length (entries (spans 0 t))) ≡ true = lt-ltb (length o) (length (entries (spans 0 t))) (omega arith) in rw y (e, refl)
+  legal_short h = let y : ltb (length o) (length (entries (spans 0 t))) ≡ true = lt-ltb (length o) (length (entries (spans 0 t))) (omega arith) in rw y (refl, refl)
 
   pub legal_put : n ≤ length o → (o' : List ℕ) (m : ℕ) → (m ≡ 0 + length (entries (spans 0 t))) × (m ≤ length o → o' ≡ spliced o 0 (entries (spans 0 t)))
-      → (x : Outcome) → x ≡ Accepted n → (x ≡ written (fitted (length o) (index_of t))) × (o' ≡ output_after o (fitted (length o) (index_of t)))
+      → (Ok n ≡ written (fitted (length o) (index_of t))) × (o' ≡ output_after o (fitted (length o) (index_of t)))
   unfolding index_of
-  legal_put h o' m w x e =
+  legal_put h o' m w =
       let y : ltb (length o) (length (entries (spans 0 t))) ≡ false = le-ltb (length o) (length (entries (spans 0 t))) (omega arith) in
-      rw y (e ∙ ap Accepted (en ∙ omega arith), w.1 (omega (arith, w.0)) ∙ put_first o (entries (spans 0 t)))
+      rw y (ap Ok (en ∙ omega arith), w.1 (omega (arith, w.0)) ∙ put_first o (entries (spans 0 t)))
 
--- index
+-- index_checked
 module _ (s : List ℕ) (root : ℕ) (b o : List ℕ) {out : Outcome} (eo : out ≡ check_tree s root b) where
-  pub index_refused : {x : Reason} → out ≡ Refused x → {y : Outcome} → y ≡ Refused x → (y ≡ (index_tree s root b o).outcome) × (o ≡ (index_tree s root b o).output)
+  pub index_refused : {x : Reason} → out ≡ Err x → (Err x ≡ (index_tree s root b o).outcome) × (o ≡ (index_tree s root b o).output)
   unfolding index_tree index_bytes
-  index_refused {x} q {y} z =
+  index_refused {x} q =
       let e : index_bytes s root b (length o) ≡ refused x = refused_tree s root b (λ l t. refuse_if (is_long b) NotIndexed (fitted (length o) (index_of t))) (sym eo ∙ q) in
-      (z ∙ sym (ap written e), sym (ap (output_after o) e))
+      (sym (ap written e), sym (ap (output_after o) e))
 
-  module _ {n : ℕ} (accepted : out ≡ Accepted n) where
+  module _ {n : ℕ} (accepted : out ≡ Ok n) where
     abbrev c : Checked s root b
     c = checked_tree s root b eo accepted
 
@@ -173,9 +162,9 @@ module _ (s : List ℕ) (root : ℕ) (b o : List ℕ) {out : Outcome} (eo : out 
     unfolding index_bytes
     index_is = rw (c.is, c.tree_is) refl
 
-    pub index_long : longest < length b → {y : Outcome} → y ≡ Refused NotIndexed → (y ≡ (index_tree s root b o).outcome) × (o ≡ (index_tree s root b o).output)
+    pub index_long : longest < length b → (Err NotIndexed ≡ (index_tree s root b o).outcome) × (o ≡ (index_tree s root b o).output)
     unfolding index_tree
-    index_long h {y} z = let t : is_long b ≡ true = lt-ltb longest (length b) h in rw (index_is, t) (z, refl)
+    index_long h = let t : is_long b ≡ true = lt-ltb longest (length b) h in rw (index_is, t) (refl, refl)
 
     pub index_given : length b ≤ longest → {y : Outcome} {o' : List ℕ}
         → (y ≡ written (fitted (length o) (index_of c.subject))) × (o' ≡ output_after o (fitted (length o) (index_of c.subject)))

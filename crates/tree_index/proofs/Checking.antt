@@ -1,4 +1,5 @@
 -- A tree that was accepted lies in its bytes, and the language's index is at hand.
+use Rattle.std.specs.Prelude.{Ok}
 use Prim.Native.Nat.{ℕ, ◌<◌}
 use mathlib.Core.Path.{◌≡◌, sym, ◌∙◌}
 use mathlib.Core.List.{List, [], append-nil}
@@ -6,9 +7,7 @@ use mathlib.Core.Option.{some}
 use native.Mathlib.Omega.{arith}
 use lib.ListN.{get_or}
 use Rattle.format_fields.specs.Fields.{byte_at}
-use Rattle.outcome.specs.Outcome.{value}
-use Rattle.outcome.specs.declared.Outcome.{Outcome}
-use Rattle.outcome.specs.declared.Outcome.TheVariants.{Accepted}
+use Rattle.outcome.specs.Outcome.{value, Outcome}
 use Rattle.format_fields.proofs.Codec.{bytes_from}
 use Rattle.format_language.specs.Language.{Language}
 use Rattle.format_language.specs.LanguageFile.{entries_of}
@@ -37,7 +36,7 @@ tree_lies l k b t bytes e =
       known = w.0;
     }
 
-module _ (s : List ℕ) (root : ℕ) (b : List ℕ) {o : Outcome} (eo : o ≡ check_tree s root b) {n : ℕ} (accepted : o ≡ Accepted n) where
+module _ (s : List ℕ) (root : ℕ) (b : List ℕ) {o : Outcome} (eo : o ≡ check_tree s root b) {n : ℕ} (accepted : o ≡ Ok n) where
   pub checked_tree : Checked s root b
   checked_tree = accepted_tree s root b (sym eo ∙ accepted)
 
@@ -47,7 +46,7 @@ module _ (s : List ℕ) (root : ℕ) (b : List ℕ) {o : Outcome} (eo : o ≡ ch
       in_below s root c.language (language_facts s c.language c.is).0 (tree_right c.language root b c.subject c.tree_is).0
 
   pub tree_there : (index : List ℕ) → ((i : ℕ) → get_or b i 0 < 256)
-      → ((m : ℕ) (l : Language) → o ≡ Accepted m → entries_of s ≡ some l → Indexed index s l)
+      → ((m : ℕ) (l : Language) → o ≡ Ok m → entries_of s ≡ some l → Indexed index s l)
       → There index s b 0 root checked_tree.language checked_tree.subject
   tree_there index bytes indexed =
       let c = checked_tree in

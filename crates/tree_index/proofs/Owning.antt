@@ -1,15 +1,14 @@
 -- The check of a tree and its index: a law for each return of `check_own`, and what is known of a tree that was accepted.
+use Rattle.std.specs.Prelude.{Err, Ok}
 use Prim.Native.Nat.{ℕ, ◌<◌, ◌≤◌}
 use mathlib.Core.Path.{◌≡◌, refl, sym, ap, ◌∙◌}
-use mathlib.Core.Bool.{Bool, true, false, not, ◌||◌}
+use mathlib.Core.Bool.{true, false, not, ◌||◌}
 use mathlib.Core.List.{List}
 use mathlib.Core.Option.{some}
 use lib.ListN.{length, get_or}
 use borrow.Author.Tests.{lt-ltb, le-ltb, ltb-false}
 use Rattle.format_fields.specs.Lists.{same_numbers}
-use Rattle.outcome.specs.Outcome.{Result, value, refused, refuse_if, checked, ◌>>=◌}
-use Rattle.outcome.specs.declared.Outcome.{Outcome}
-use Rattle.outcome.specs.declared.Outcome.TheVariants.{Accepted, Refused}
+use Rattle.outcome.specs.Outcome.{Result, value, refused, refuse_if, checked, ◌>>=◌, Outcome}
 use Rattle.outcome.specs.declared.Reason.{Reason}
 use Rattle.outcome.specs.declared.Reason.TheVariants.{NotIndexed}
 use Rattle.format_fields.proofs.Truth.{or_false, true_not, numbers_equal}
@@ -31,12 +30,12 @@ use Rattle.tree_index.proofs.Checking.{checked_tree, tree_lies}
 
 -- check_own
 module _ (s : List ℕ) (root : ℕ) (b i : List ℕ) {out : Outcome} (eo : out ≡ check_tree s root b) where
-  pub own_refused : {x : Reason} → out ≡ Refused x → {y : Outcome} → y ≡ Refused x → y ≡ check_indexed s root b i
+  pub own_refused : {x : Reason} → out ≡ Err x → Err x ≡ check_indexed s root b i
   unfolding check_indexed indexed_tree
-  own_refused {x} q {y} z =
-      z ∙ sym (ap checked (refused_tree s root b (λ l t. refuse_if (is_long b || not (same_numbers i (index_of t))) NotIndexed (value t)) (sym eo ∙ q)))
+  own_refused q =
+      sym (ap checked (refused_tree s root b (λ l t. refuse_if (is_long b || not (same_numbers i (index_of t))) NotIndexed (value t)) (sym eo ∙ q)))
 
-  module _ {n : ℕ} (accepted : out ≡ Accepted n) where
+  module _ {n : ℕ} (accepted : out ≡ Ok n) where
     abbrev c : Checked s root b
     c = checked_tree s root b eo accepted
 
@@ -44,15 +43,15 @@ module _ (s : List ℕ) (root : ℕ) (b i : List ℕ) {out : Outcome} (eo : out 
     unfolding check_indexed indexed_tree
     own_is = rw (c.is, c.tree_is) refl
 
-    pub own_long : longest < length b → {y : Outcome} → y ≡ Refused NotIndexed → y ≡ check_indexed s root b i
-    own_long h {y} z = let t : is_long b ≡ true = lt-ltb longest (length b) h in rw (own_is, t) z
+    pub own_long : longest < length b → Err NotIndexed ≡ check_indexed s root b i
+    own_long h = let t : is_long b ≡ true = lt-ltb longest (length b) h in rw (own_is, t) refl
 
-    module _ (short : length b ≤ longest) (r : Bool) (er : r ≡ same_numbers i (index_of c.subject)) where
-      pub own_other : r ≡ false → {y : Outcome} → y ≡ Refused NotIndexed → y ≡ check_indexed s root b i
-      own_other h {y} z = let t : is_long b ≡ false = le-ltb longest (length b) short in rw (own_is, t, ← er, h) z
+    module _ (short : length b ≤ longest) where
+      pub own_other : false ≡ same_numbers i (index_of c.subject) → Err NotIndexed ≡ check_indexed s root b i
+      own_other e = let t : is_long b ≡ false = le-ltb longest (length b) short in rw (own_is, t, ← e) refl
 
-      pub own_accepted : r ≡ true → {y : Outcome} → y ≡ Accepted 0 → y ≡ check_indexed s root b i
-      own_accepted h {y} z = let t : is_long b ≡ false = le-ltb longest (length b) short in rw (own_is, t, ← er, h) z
+      pub own_accepted : true ≡ same_numbers i (index_of c.subject) → Ok 0 ≡ check_indexed s root b i
+      own_accepted e = let t : is_long b ≡ false = le-ltb longest (length b) short in rw (own_is, t, ← e) refl
 
 -- A tree that was accepted with its index.
 pub record OwnedBy (s : List ℕ) (root : ℕ) (b i : List ℕ) (l : Language) (t : Code) : Type 0 where
@@ -84,30 +83,30 @@ indexed_owned s root b i l t e f =
     }
 
 module _ (s : List ℕ) (root : ℕ) (b i : List ℕ) where
-  tree_owned : {n : ℕ} (l : Language) (m : Result Code) → language_of s ≡ value l → indexed_tree l root b i ≡ m → checked m ≡ Accepted n → Owned s root b i
+  tree_owned : {n : ℕ} (l : Language) (m : Result Code) → language_of s ≡ value l → indexed_tree l root b i ≡ m → checked m ≡ Ok n → Owned s root b i
   tree_owned l (value t) e f h = record { language = l; subject = t; by = indexed_owned s root b i l t e f }
   tree_owned {n} l (refused r) e f h = refused_not {n = n} {r = r} h
 
-  language_owned : {n : ℕ} (m : Result Language) → language_of s ≡ m → checked (m >>= λ l. indexed_tree l root b i) ≡ Accepted n → Owned s root b i
+  language_owned : {n : ℕ} (m : Result Language) → language_of s ≡ m → checked (m >>= λ l. indexed_tree l root b i) ≡ Ok n → Owned s root b i
   language_owned (value l) e h = tree_owned l (indexed_tree l root b i) e refl h
   language_owned {n} (refused r) e h = refused_not {n = n} {r = r} h
 
-  pub accepted_own : {n : ℕ} → check_indexed s root b i ≡ Accepted n → Owned s root b i
+  pub accepted_own : {n : ℕ} → check_indexed s root b i ≡ Ok n → Owned s root b i
   unfolding check_indexed
   accepted_own h = language_owned (language_of s) refl h
 
   -- What the check refuses is refused by whatever goes on with the tree.
   module _ {A : Type 0} (f : Language → Code → Result A) {r : Reason} where
-    tree_stays : (l : Language) (m : Result Code) → checked m ≡ Refused r → m >>= f l ≡ refused r
+    tree_stays : (l : Language) (m : Result Code) → checked m ≡ Err r → m >>= f l ≡ refused r
     tree_stays l (value t) h = refused_not {n = 0} {r = r} (sym h)
     tree_stays l (refused q) h = cc
 
-    language_stays : (m : Result Language) → checked (m >>= λ l. indexed_tree l root b i) ≡ Refused r
+    language_stays : (m : Result Language) → checked (m >>= λ l. indexed_tree l root b i) ≡ Err r
         → (m >>= λ l. indexed_tree l root b i >>= f l) ≡ refused r
     language_stays (value l) h = tree_stays l (indexed_tree l root b i) h
     language_stays (refused q) h = cc
 
-    pub refused_own : check_indexed s root b i ≡ Refused r → (language_of s >>= λ l. indexed_tree l root b i >>= f l) ≡ refused r
+    pub refused_own : check_indexed s root b i ≡ Err r → (language_of s >>= λ l. indexed_tree l root b i >>= f l) ≡ refused r
     unfolding check_indexed
     refused_own h = language_stays (language_of s) h
 

@@ -63,14 +63,20 @@ entry_read i n s z rest e =
       others = sym (drop-drop 4 n i) ∙ ap (drop 4) e;
     }
 
--- starts_at
-module _ (i : List ℕ) (n s z : ℕ) where
-  pub too_short : length i < n + 4 → Has i n (entry (span s z)) → ⊥
-  too_short h w = let r = entry_read i n s z w.rest w.is in omega (arith, r.inside)
+-- An entry that stands there lies inside, and says one length.
+pub entry_inside : {i : List ℕ} {n : ℕ} (s z : ℕ) → Has i n (entry (span s z)) → n + 4 ≤ length i
+entry_inside {i} {n} s z w = (entry_read i n s z w.rest w.is).inside
 
-  pub other_start : (x : ℕ) → x ≡ pair_at i n → (x ≡ s → ⊥) → Has i n (entry (span s z)) → ⊥
-  other_start x e h w = h (e ∙ (entry_read i n s z w.rest w.is).start)
+pub entry_same : {i : List ℕ} {n : ℕ} (s y z : ℕ) → Has i n (entry (span s y)) → Has i n (entry (span s z)) → y ≡ z
+entry_same {i} {n} s y z v w = sym (entry_read i n s y v.rest v.is).long ∙ (entry_read i n s z w.rest w.is).long
 
-  -- What the entry at n says.
-  pub entry_has : n + 4 ≤ length i → ((j : ℕ) → get_or i j 0 < 256) → pair_at i n ≡ s → pair_at i (n + 2) ≡ z → Has i n (entry (span s z))
-  entry_has h b a c = record { rest = drop (n + 4) i; is = entry_front i n h b ∙ rw (a, c) refl }
+-- size_at
+module _ (i : List ℕ) (n s : ℕ) where
+  pub size_short : length i < n + 4 → (z : ℕ) → Has i n (entry (span s z)) → ⊥
+  size_short h z w = omega (arith, entry_inside s z w)
+
+  pub size_other : (x : ℕ) → x ≡ pair_at i n → (x ≡ s → ⊥) → (z : ℕ) → Has i n (entry (span s z)) → ⊥
+  size_other x e h z w = h (e ∙ (entry_read i n s z w.rest w.is).start)
+
+  pub size_said : (x z : ℕ) → x ≡ pair_at i n → x ≡ s → z ≡ pair_at i (n + 2) → n + 4 ≤ length i → ((j : ℕ) → get_or i j 0 < 256) → Has i n (entry (span s z))
+  size_said x z ex es ez h b = record { rest = drop (n + 4) i; is = rw (← es, ex, ez) (entry_front i n h b) }

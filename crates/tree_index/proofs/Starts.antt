@@ -11,7 +11,7 @@ use Rattle.tree_reader.specs.Syntax.{write, write_all, tree}
 use Rattle.tree_index.specs.Spans.{Span, span, size, spans, spans_all, entry, entries, index_of}
 use Rattle.tree_index.specs.Inner.Starts.{Below, Behind, Splits, Entered}
 use Rattle.tree_index.proofs.Pairs.{entry_length, Entry, entry_read}
-use Rattle.tree_index.proofs.Walking.{entries_cons}
+use Rattle.tree_index.proofs.Walking.{entries_append, entries_cons}
 
 -- The first span of a tree is its own.
 pub own_span : (a : ℕ) (t : Code) → (r : List Span) × (spans a t ≡ span a (size t) ∷ r)
@@ -87,12 +87,6 @@ module _ (i : List ℕ) (position p : ℕ) where
       let r = first_read i p s n (left ++ back) w.is in
       absurd (omega (arith, r.start, w.below.0))
 
-  nothing_here : (left back : List Span) → Splits i p position left back → length i ≤ p → length (entries left) ≡ 0
-  nothing_here [] back w h = no_entries
-  nothing_here (span s n ∷ left) back w h =
-      let r = first_read i p s n (left ++ back) w.is in
-      absurd (omega (arith, r.inside))
-
   past_here : (left back : List Span) → Splits i p position left back → p < length i → pair_at i p < position
       → (l : List Span) × Splits i (p + 4) position l back × (length (entries left) ≡ 4 + length (entries l))
   past_here [] [] w h k =
@@ -114,5 +108,12 @@ module _ (i : List ℕ) (entry position p : ℕ) (front back : List Span) (w : P
       let z = past_here i position p w.left back w.splits h (omega arith) in
       record { left = z.0; splits = z.1; same = omega (arith, w.same, z.2) }
 
-pub pass_end : (i : List ℕ) (entry position p : ℕ) (front back : List Span) → Passing i entry position p front back → length i ≤ p → p ≡ entry + length (entries front)
-pass_end i entry position p front back w h = let z = nothing_here i position p w.left back w.splits h in omega (arith, w.same)
+-- How long the entries are that stand in an index from a place on.
+splits_long : {i : List ℕ} {p x : ℕ} {front back : List Span} → Splits i p x front back → length i - p ≡ length (entries front) + length (entries back)
+splits_long {i} {p} {x} {front} {back} w =
+    sym (length-drop p i) ∙ (ap length (w.is ∙ entries_append front back) ∙ length-append (entries front) (entries back))
+
+-- Behind the last entry: the index has those of the front, and no others.
+pub pass_end : (i : List ℕ) (entry position p : ℕ) (front back : List Span) → Passing i entry position p front back → Splits i entry position front back
+    → entry ≤ length i → length i ≤ p → length i ≡ entry + length (entries front)
+pass_end i entry position p front back w h e d = omega (arith, splits_long w.splits, splits_long h)

@@ -192,13 +192,13 @@ pub record Walking (x s b : List ℕ) (base : ℕ) (o o' : List ℕ) (n at : ℕ
   pub few : m + 4 * (length b - to) ≤ last_place
   pub flat : levels_all others ≤ levels_all ts
 
-module _ (x s b : List ℕ) (base : ℕ) (o : List ℕ) (n at : ℕ) (ts : Codes) (l : Language) where
-  pub walk_begin : (first last : ℕ) → KindsIn s first last → Row x s b at first last l ts → n + 4 * (length b - at) ≤ last_place → Walking x s b base o o n at ts first last at n l
-  walk_begin first last k r h = record { others = ts; dealt = []; row = r; kinds = k; puts = puts_nothing o n; all = refl; ends = refl; few = h; flat = omega arith }
+module _ {x s b : List ℕ} {base : ℕ} {o : List ℕ} {n at : ℕ} {ts : Codes} {l : Language} where
+  pub walk_begin : {first last : ℕ} → KindsIn s first last → Row x s b at first last l ts → n + 4 * (length b - at) ≤ last_place → Walking x s b base o o n at ts first last at n l
+  walk_begin k r h = record { others = ts; dealt = []; row = r; kinds = k; puts = puts_nothing o n; all = refl; ends = refl; few = h; flat = omega arith }
 
-  module _ (o' : List ℕ) (q last to m : ℕ) (w : Walking x s b base o o' n at ts q last to m l) where
-    pub walk_done : last ≤ q → (r : Ends) → r.trees ≡ to → r.entries ≡ m → Writes (entries (spans_all (base + at) ts)) o o' n (at + length (write_all tree ts)) r
-    walk_done done r et em =
+  module _ {o' : List ℕ} {q last to m : ℕ} (w : Walking x s b base o o' n at ts q last to m l) where
+    pub walk_done : last ≤ q → {r : Ends} → r.trees ≡ to → r.entries ≡ m → Writes (entries (spans_all (base + at) ts)) o o' n (at + length (write_all tree ts)) r
+    walk_done done {r} et em =
         let z = no_trees (base + to) w.others (none_left x s b to q last l w.others w.row done) in
         let a : entries (spans_all (base + at) ts) ≡ w.dealt = w.all ∙ (ap (λ (v : List ℕ). w.dealt ++ v) z.0 ∙ append-nil w.dealt) in
         record { trees = omega (arith, w.ends, z.1); puts = rw (a, em) w.puts }
@@ -210,7 +210,7 @@ module _ (x s b : List ℕ) (base : ℕ) (o : List ℕ) (n at : ℕ) (ts : Codes
       pub walk_kind : q < length s
       walk_kind = (w.kinds q (omega arith) here).0
 
-      module _ (f e t : ℕ) (p : Opens x s b to (get_or s q 0) l walk_turn.head f e t) where
+      module _ {f e t : ℕ} (p : Opens x s b to (get_or s q 0) l walk_turn.head f e t) where
         abbrev inner : List ℕ
         inner = entries (spans_all (base + t) p.operands)
 
@@ -232,7 +232,7 @@ module _ (x s b : List ℕ) (base : ℕ) (o : List ℕ) (n at : ℕ) (ts : Codes
             omega (arith, walk_turn.row.lie.inside)
 
         -- The operands' entries are written, then the node's own.
-        module _ (o₁ o₂ : List ℕ) (k end a z : ℕ) (pi : Puts inner o' o₁ (m + 4) k) (ee : end ≡ t + length (write_all tree p.operands))
+        module _ {o₁ o₂ : List ℕ} {k end a z : ℕ} (pi : Puts inner o' o₁ (m + 4) k) (ee : end ≡ t + length (write_all tree p.operands))
             (ea : a ≡ base + to) (ez : z ≡ end - to) (ep : m + 4 ≤ length o₁ → o₂ ≡ spliced o₁ m (entry (span a z))) where
           pub walk_next : length o' ≡ length o → length o₁ ≡ length o' → Walking x s b base o o₂ n at ts (q + 1) last end k l
           walk_next long same =
@@ -263,7 +263,7 @@ module _ (x s b : List ℕ) (base : ℕ) (o : List ℕ) (n at : ℕ) (ts : Codes
           none_inner : (inner ≡ []) × (length (write_all tree p.operands) ≡ 0)
           none_inner = no_trees (base + t) p.operands (none_left x s b t f e l p.operands p.row none)
 
-          pub leaf_next : (o₂ : List ℕ) (a z : ℕ) → a ≡ base + to → z ≡ t - to → (m + 4 ≤ length o' → o₂ ≡ spliced o' m (entry (span a z)))
+          pub leaf_next : {o₂ : List ℕ} {a z : ℕ} → a ≡ base + to → z ≡ t - to → (m + 4 ≤ length o' → o₂ ≡ spliced o' m (entry (span a z)))
               → length o' ≡ length o → Walking x s b base o o₂ n at ts (q + 1) last t (m + 4) l
-          leaf_next o₂ a z ea ez ep long =
-              walk_next o' o₂ (m + 4) t a z (rw none_inner.0 (puts_nothing o' (m + 4))) (omega (arith, none_inner.1)) ea ez ep long refl
+          leaf_next ea ez ep long =
+              walk_next (rw none_inner.0 (puts_nothing o' (m + 4))) (omega (arith, none_inner.1)) ea ez ep long refl

@@ -1,8 +1,7 @@
 -- The operation that builds the index of a tree, and the test of an index that is handed in (paper 02, 2026-08).
 use Rattle.std.specs.Prelude.{ℕ, Bool, not, ◌||◌, List, length, ltb}
 use Rattle.format_fields.specs.Lists.{same_numbers}
-use Rattle.outcome.specs.Outcome.{Result, value, refuse_if, ◌>>=◌, checked, written, output_after}
-use Rattle.outcome.specs.declared.Outcome.{Outcome}
+use Rattle.outcome.specs.Outcome.{Result, value, refuse_if, ◌>>=◌, checked, written, output_after, Outcome}
 use Rattle.outcome.specs.declared.Reason.TheVariants.{NotIndexed}
 use Rattle.format_language.specs.Language.{Language}
 use Rattle.format_language.specs.LanguageFile.{language_of}

@@ -4,7 +4,6 @@ ghost use Rattle.std.proofs.Math.Option.{some};
 ghost use Rattle.format_fields.specs.Lists.{same_numbers};
 ghost use Rattle.format_fields.specs.Inner.Writing.{spliced};
 ghost use Rattle.outcome.specs.Outcome.{written, output_after};
-ghost use Rattle.outcome.specs.declared.Outcome.TheVariants.{Accepted};
 ghost use Rattle.format_language.specs.Language.{Language};
 ghost use Rattle.format_language.specs.LanguageFile.{entries_of};
 ghost use Rattle.tree_reader.specs.Code.{Code};
@@ -15,12 +14,11 @@ ghost use Rattle.tree_index.specs.Operations.{longest, index_tree, check_indexed
 ghost use Rattle.tree_index.specs.Inner.Lying.{There};
 
 use crate::compare::compare_row;
-use crate::entries::{ENTRY, put_entry, starts_at};
+use crate::entries::{ENTRY, put_entry, size_at};
 use crate::operands::operands_at;
 use crate::walk::write_row;
 use check_operations::trees::check_indexed;
-use format_fields::bytes::pair_in;
-use outcome::{Answer, Outcome, Reason, accept, refuse};
+use outcome::{Answer, Outcome, Reason};
 use tree_reader::index::INDEX;
 use tree_reader::read::TREE_LEVELS;
 
@@ -63,11 +61,10 @@ fn is_own(language: &[u8], places: &[u16], kind: u8, tree: &[u8], index: &[u8]) 
     ensures { (l : Language) (t : Code) → There places.now language.now tree.now 0 kind l t
         → result ≡ same_numbers index.now (index_of t) }
 {
-    if !starts_at(index, 0, 0) {
+    let Some(stop) = size_at(index, 0, 0) else {
         return false;
-    }
+    };
     let operands = operands_at(language, places, kind, tree, 0);
-    let stop = pair_in(index, 2);
     compare_row(
         language,
         places,
@@ -77,45 +74,48 @@ fn is_own(language: &[u8], places: &[u16], kind: u8, tree: &[u8], index: &[u8]) 
         index,
         ENTRY,
         TREE_LEVELS,
-    ) == index.len()
+    )
+    .is_some_and(|end| end == index.len())
 }
 
 // The index of a legal tree: 17 where it is longer than the output. It has no more entries than the tree has bytes; an output
 // with room for so many is written at once, for another the length is counted first.
-fn index_legal(language: &[u8], places: &[u16], kind: u8, tree: &[u8], output: &mut [u8]) -> Answer
+fn index_legal(language: &[u8], places: &[u16], kind: u8, tree: &[u8], output: &mut [u8]) -> Outcome
     requires { (length tree.now ≤ longest) × ((l : Language) × (t : Code) × There places.now language.now tree.now 0 kind l t) }
     ensures { (l : Language) (t : Code) → There places.now language.now tree.now 0 kind l t
-        → (result.outcome ≡ written (fitted (length output.old) (index_of t)))
+        → (result ≡ written (fitted (length output.old) (index_of t)))
         × (output.new ≡ output_after output.old (fitted (length output.old) (index_of t))) }
 {
     if tree.len() * ENTRY <= output.len() {
-        let length = write_index(language, places, kind, tree, 0, output, 0);
-        return accept(length);
+        return Ok(write_index(language, places, kind, tree, 0, output, 0));
     }
-    let mut nowhere = [0u8; 1];
-    let length = write_index(language, places, kind, tree, 0, &mut nowhere, 0);
+    let length = write_index(language, places, kind, tree, 0, &mut [], 0);
     if output.len() < length {
-        return refuse(Reason::OutputTooShort);
+        return Err(Reason::OutputTooShort);
     }
     write_index(language, places, kind, tree, 0, output, 0);
-    accept(length)
+    Ok(length)
 }
 
-// Build the index of a tree: 1 to 4 for the language, 14 to 16 for the tree, 22 where it is too long, 17.
+// The index of a tree: 1 to 4 for the language, 14 to 16 for the tree, 22 where it is too long, 17.
+fn index_checked(language: &[u8], root: u32, tree: &[u8], output: &mut [u8]) -> Outcome
+    ensures { (result ≡ (index_tree language.now root tree.now output.old).outcome)
+        × (output.new ≡ (index_tree language.now root tree.now output.old).output) }
+{
+    let mut places = [0u16; INDEX];
+    check_indexed(language, root, tree, &mut places)?;
+    if LONGEST < tree.len() {
+        return Err(Reason::NotIndexed);
+    }
+    index_legal(language, &places, root as u8, tree, output)
+}
+
+// Build the index of a tree.
 pub fn index(language: &[u8], root: u32, tree: &[u8], output: &mut [u8]) -> Answer
     ensures { (result.outcome ≡ (index_tree language.now root tree.now output.old).outcome)
         × (output.new ≡ (index_tree language.now root tree.now output.old).output) }
 {
-    let mut places = [0u16; INDEX];
-    let answer = check_indexed(language, root, tree, &mut places);
-    let outcome = answer.outcome;
-    if let Outcome::Refused(reason) = outcome {
-        return refuse(reason);
-    }
-    if LONGEST < tree.len() {
-        return refuse(Reason::NotIndexed);
-    }
-    index_legal(language, &places, root as u8, tree, output)
+    Answer::from(index_checked(language, root, tree, output))
 }
 
 // Check a tree and the index that stands beside it: 1 to 4 for the language, 14 to 16 for the tree, 22 where it is too long
@@ -126,22 +126,15 @@ pub fn check_own(
     tree: &[u8],
     index: &[u8],
     places: &mut [u16],
-) -> Answer
+) -> Outcome
     requires { (length places.old ≡ index_length) × ((j : ℕ) → get_or places.old j 0 ≡ 0) }
-    ensures { (result.outcome ≡ check_indexed language.now root tree.now index.now)
-        × ((n : ℕ) (l : Language) → result.outcome ≡ Accepted n → entries_of language.now ≡ some l
+    ensures { (result ≡ check_indexed language.now root tree.now index.now)
+        × ((n : ℕ) (l : Language) → result ≡ Ok n → entries_of language.now ≡ some l
         → Indexed places.new language.now l) }
 {
-    let answer = check_indexed(language, root, tree, places);
-    let outcome = answer.outcome;
-    if let Outcome::Refused(reason) = outcome {
-        return refuse(reason);
+    check_indexed(language, root, tree, places)?;
+    if LONGEST < tree.len() || !is_own(language, places, root as u8, tree, index) {
+        return Err(Reason::NotIndexed);
     }
-    if LONGEST < tree.len() {
-        return refuse(Reason::NotIndexed);
-    }
-    if !is_own(language, places, root as u8, tree, index) {
-        return refuse(Reason::NotIndexed);
-    }
-    accept(0)
+    Ok(0)
 }

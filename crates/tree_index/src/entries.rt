@@ -1,6 +1,5 @@
 // The entries of an index, four bytes each: a start and a length.
-ghost use Rattle.std.specs.Prelude.{◌≡◌, true, false, List, ℕ, ◌+◌, ◌<◌, ◌≤◌, length};
-ghost use Rattle.format_fields.specs.Fields.{pair_at};
+ghost use Rattle.std.specs.Prelude.{◌≡◌, List, ℕ, ◌+◌, ◌<◌, ◌≤◌, length, MatchOption};
 ghost use Rattle.format_fields.specs.Inner.Writing.{spliced};
 ghost use Rattle.tree_index.specs.Spans.{Span, span, entry, entries};
 ghost use Rattle.tree_index.specs.Inner.Marking.{Has};
@@ -24,16 +23,16 @@ pub fn put_entry(start: usize, size: usize, out: &mut [u8], n: usize)
     put_pair(size, out, n + 2);
 }
 
-// Whether an entry with a start stands in an index.
-pub fn starts_at(index: &[u8], n: usize, start: usize) -> bool
+// The length in the entry that stands in an index from n on, if that entry has the start.
+pub fn size_at(index: &[u8], n: usize, start: usize) -> Option<usize>
     requires { n ≤ length index.now }
-    ensures { (result ≡ true → (n + 4 ≤ length index.now) × (pair_at index.now n ≡ start))
-        × (result ≡ false → (size : ℕ) → Has index.now n (entry (span start size)) → ⊥) }
+    ensures { MatchOption result ((size : ℕ) → Has index.now n (entry (span start size)) → ⊥)
+        (λ size. Has index.now n (entry (span start size)) × (size < 65536)) }
 {
-    if index.len() < n + ENTRY {
-        return false;
+    if index.len() < n + ENTRY || pair_in(index, n) != start {
+        return None;
     }
-    pair_in(index, n) == start
+    Some(pair_in(index, n + 2))
 }
 
 // Where in an index, from an entry on, the first entry stands whose start is not before a position.
@@ -41,12 +40,10 @@ pub fn entry_from(index: &[u8], entry: usize, position: usize) -> usize
     requires { entry ≤ length index.now }
     ensures { (front back : List Span) → Splits index.now entry position front back → result ≡ entry + length (entries front) }
 {
-    let mut p = entry;
-    while p < index.len() {
+    for p in (entry..index.len()).step_by(ENTRY) {
         if position <= pair_at(index, p) {
             return p;
         }
-        p += ENTRY;
     }
-    p
+    index.len()
 }

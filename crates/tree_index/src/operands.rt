@@ -3,7 +3,6 @@ ghost use Rattle.format_language.specs.Language.{Language};
 ghost use Rattle.tree_reader.specs.Code.{Code};
 ghost use Rattle.tree_index.specs.Inner.Lying.{There, Opens};
 
-use format_fields::bytes::to_usize;
 use tree_reader::node::place_at;
 use tree_reader::operands::{operands_of, production_key};
 
@@ -22,7 +21,7 @@ pub fn operands_at(language: &[u8], places: &[u16], kind: u8, tree: &[u8], at: u
     ensures { (l : Language) (t : Code) → There places.now language.now tree.now at kind l t
         → Opens places.now language.now tree.now at kind l t result.first result.last result.start }
 {
-    let class = place_at(places, to_usize(kind));
+    let class = place_at(places, usize::from(kind));
     if class != 0 {
         return OperandsAt {
             first: 0,
@@ -30,7 +29,7 @@ pub fn operands_at(language: &[u8], places: &[u16], kind: u8, tree: &[u8], at: u
             start: at + 2,
         };
     }
-    let key = production_key(to_usize(kind), to_usize(tree[at]));
+    let key = production_key(usize::from(kind), usize::from(tree[at]));
     let operands = operands_of(language, place_at(places, key));
     OperandsAt {
         first: operands.first,

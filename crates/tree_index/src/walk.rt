@@ -36,12 +36,10 @@ pub fn write_row(
     ensures { (l : Language) (ts : Codes) → Row places.now language.now tree.now operands.start operands.first operands.last l ts
         → Writes (entries (spans_all (base + operands.start) ts)) out.old out.new n (operands.start + length (write_all treeSyntax ts)) result }
 {
-    let mut q = operands.first;
     let mut to = operands.start;
     let mut m = n;
-    while q < operands.last {
+    for q in operands.first..operands.last {
         let inner = operands_at(language, places, language[q], tree, to);
-        q += 1;
         if inner.last <= inner.first {
             put_entry(base + to, inner.start - to, out, m);
             to = inner.start;

@@ -1,4 +1,5 @@
 -- Why each position is told: by the agreement of stops and reading, the front that decides, and the round trip of legal trees.
+use Rattle.std.specs.Prelude.{Err, Ok}
 use Prim.Native.Nat.{ℕ, ◌+◌, ◌<◌, ◌≤◌}
 use mathlib.Core.Path.{◌≡◌, refl, sym, ap, ◌∙◌}
 use mathlib.Core.Logic.{◌⊎◌, inl, inr}
@@ -7,9 +8,7 @@ use mathlib.Core.List.{List, [], ◌∷◌, ◌++◌, append_assoc, append-nil}
 use native.Mathlib.Omega.{arith}
 use lib.ListN.{length, get_or, take, drop, length-append, take-append-drop}
 use lib.Seq.{take_at, take-append-le, length-take-le}
-use Rattle.outcome.specs.Outcome.{Result, value, checked, ◌>>=◌}
-use Rattle.outcome.specs.declared.Outcome.{Outcome}
-use Rattle.outcome.specs.declared.Outcome.TheVariants.{Accepted, Refused}
+use Rattle.outcome.specs.Outcome.{Result, value, checked, ◌>>=◌, Outcome}
 use Rattle.outcome.specs.declared.Reason.TheVariants.{IllegalTree, TooDeep}
 use Rattle.format_fields.proofs.Split.{front}
 use Rattle.format_language.specs.Language.{Language, is_in}
@@ -41,11 +40,11 @@ stops_as_read l n k s = agrees (stop l n k s) (read tree l [] n k s) (stop_agree
 
 -- The outcome by the stop.
 abbrev outcome_of : Stop → Outcome
-outcome_of (passes []) = Accepted 0
-outcome_of (passes (b ∷ s)) = Refused IllegalTree
-outcome_of ends = Refused IllegalTree
-outcome_of (unfit s) = Refused IllegalTree
-outcome_of (deep s) = Refused TooDeep
+outcome_of (passes []) = Ok 0
+outcome_of (passes (b ∷ s)) = Err IllegalTree
+outcome_of ends = Err IllegalTree
+outcome_of (unfit s) = Err IllegalTree
+outcome_of (deep s) = Err TooDeep
 
 outcome_is : (o : Stop) (g : Read Code) → Agrees o g → checked (whole_tree g) ≡ outcome_of o
 outcome_is (passes []) g e = ap (λ (x : Read Code). checked (whole_tree x)) e.1
@@ -146,7 +145,7 @@ module _ (language : List ℕ) (root : ℕ) (l : Language) (is : language_of lan
         rw p (go n m t f h)
       where
         go : (length w ≡ 1) ⊎ (length w ≡ 2) → length (a ++ w) ≡ length a + length w → length s ≡ length (a ++ w) + length r → s ≡ (a ++ w) ++ r
-            → ((v : List ℕ) → stops ((a ++ w) ++ v) ≡ passes [] → ⊥) → Because language l root s (Refused IllegalTree) (length a)
+            → ((v : List ℕ) → stops ((a ++ w) ++ v) ≡ passes [] → ⊥) → Because language l root s (Err IllegalTree) (length a)
         go (inl one) m t f h =
             let i : length a < length s = omega arith in
             unknown i (decided (a ++ w) r s f c h (length a + 1) (omega arith))

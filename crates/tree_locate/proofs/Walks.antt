@@ -1,4 +1,7 @@
 -- The walk that finds where reading stops: a law for each return.
+use Rattle.std.specs.Prelude.{Err, Ok}
+use Rattle.std.specs.Result.{MatchResult}
+use Rattle.tree_reader.specs.declared.node.ReadError.TheVariants.{Broken}
 use Prim.Native.Nat.{ℕ, zero, suc, ◌+◌, ◌*◌, ◌-◌, ◌<◌, ◌≤◌}
 use mathlib.Core.Path.{◌≡◌, refl, sym, ap, ◌∙◌}
 use mathlib.Core.Bool.{true, false, cond}
@@ -16,17 +19,13 @@ use Rattle.format_fields.proofs.Lists.{part_done, part_next}
 use Rattle.format_language.specs.Language.{Language, Range, range_of, in_range, production_key}
 use Rattle.format_language.specs.Inner.Entries.{class_range}
 use Rattle.tree_reader.specs.Inner.Index.{Sound, Indexed}
-use Rattle.tree_reader.specs.Inner.Positions.{token_at, production_place, KindsIn}
+use Rattle.tree_reader.specs.Inner.Positions.{token_at, production_place, KindsIn, Read}
 use Rattle.tree_reader.specs.declared.node.Syntax.TheVariants.{Tree}
-use Rattle.tree_reader.specs.declared.node.Read.{Read}
-use Rattle.tree_reader.specs.declared.node.Read.TheVariants.{End, Deep, Broken}
 use Rattle.tree_reader.proofs.Laws.{kinds_from}
 use Rattle.check_operations.proofs.Reading.{two, class_known, class_none, production_none, found_name, at_known}
 use Rattle.tree_locate.specs.Faults.{Stop, passes, ends, unfit, deep, onward, stop_all, stop_operands, stop_node, stop_token, stop}
 use Rattle.tree_locate.specs.Operations.{position_of}
-use Rattle.tree_locate.specs.Inner.Places.{past, stopped, place_of, place_at, WalkIn}
-use Rattle.tree_locate.specs.declared.walk.Walk.{Walk}
-use Rattle.tree_locate.specs.declared.walk.Walk.TheVariants.{Past, Stopped}
+use Rattle.tree_locate.specs.Inner.Places.{past, stopped, place_of, place_at, Walk, WalkIn}
 
 -- The position at which so much is left is the one it starts from.
 pub position_is : (b : List ℕ) (at : ℕ) → at ≤ length b → position_of b (drop at b) ≡ at
@@ -51,7 +50,7 @@ module _ (s : List ℕ) (class : ℕ) (b : List ℕ) (at : ℕ) where
   abbrev range : Range
   range = class_range s (class - 1)
 
-  pub token_short : length b - at < 2 → place_at b (Stopped (length b)) ≡ place_of b (stop_token range (drop at b))
+  pub token_short : length b - at < 2 → place_at b (Err (length b)) ≡ place_of b (stop_token range (drop at b))
   unfolding place_at place_of
   token_short h = let k : length (drop at b) < 2 = rw length-drop h in sym (ap (place_of b) (token_cut range (drop at b) k))
 
@@ -60,7 +59,7 @@ module _ (s : List ℕ) (class : ℕ) (b : List ℕ) (at : ℕ) where
     unfolding pair_at
     value = refl
 
-    token_read : token_at s class b at ≡ cond (in_range range (pair_at b at)) (End (at + 2)) Broken
+    token_read : token_at s class b at ≡ cond (in_range range (pair_at b at)) (Ok (at + 2)) (Err Broken)
     unfolding token_at
     token_read = let h : class ≡ 0 → ⊥ = λ e. omega arith in simp (ne_eqb class 0 h, le-ltb (length b - at) 2 there)
 
@@ -72,8 +71,8 @@ module _ (s : List ℕ) (class : ℕ) (b : List ℕ) (at : ℕ) where
         ap (stop_token range) (two b at there)
         ∙ (token_out range _ _ (pair_at b at) (drop (at + 2) b) value h ∙ ap unfit (sym (two b at there)))
 
-    pub token_past : {r : Read} {e : ℕ} → r ≡ token_at s class b at → r ≡ End e
-        → (place_at b (Past e) ≡ place_of b (stop_token range (drop at b))) × (e ≤ length b)
+    token_past : {r : Read} {e : ℕ} → r ≡ token_at s class b at → r ≡ Ok e
+        → (place_at b (Ok e) ≡ place_of b (stop_token range (drop at b))) × (e ≤ length b)
     unfolding place_at place_of
     token_past {r} {e} er h =
         by_test (in_range range (pair_at b at))
@@ -82,19 +81,18 @@ module _ (s : List ℕ) (class : ℕ) (b : List ℕ) (at : ℕ) where
         (ap (λ (j : ℕ). past (drop j b)) z ∙ sym (ap (place_of b) (in_end t)), omega arith))
         (λ t. let z : ◌≡◌ {A = ℕ} 0 1 = cc token_read in absurd (omega arith))
 
-    pub token_stopped : {r : Read} → r ≡ token_at s class b at → ((e : ℕ) → r ≡ End e → ⊥)
-        → place_at b (Stopped at) ≡ place_of b (stop_token range (drop at b))
+    token_stopped : {r : Read} → r ≡ token_at s class b at → ((e : ℕ) → r ≡ Ok e → ⊥)
+        → place_at b (Err at) ≡ place_of b (stop_token range (drop at b))
     unfolding place_at place_of
     token_stopped {r} er h =
         by_test (in_range range (pair_at b at))
         (λ t. absurd (h (at + 2) (cc token_read)))
         (λ t. sym (ap (place_of b) (out_stop t) ∙ ap stopped (position_is b at inside)))
 
-pub deep_end : {r : Read} (e : ℕ) → r ≡ Deep → r ≡ End e → ⊥
-deep_end e h i = let z : ◌≡◌ {A = ℕ} 0 1 = cc in omega arith
-
-pub broken_end : {r : Read} (e : ℕ) → r ≡ Broken → r ≡ End e → ⊥
-broken_end e h i = let z : ◌≡◌ {A = ℕ} 0 1 = cc in omega arith
+    pub token_walked : (r : Read) (w : Walk) → r ≡ token_at s class b at → MatchResult r (λ e. w ≡ Ok e) (λ x. w ≡ Err at)
+        → (place_at b w ≡ place_of b (stop_token range (drop at b))) × WalkIn (length b) w
+    token_walked (Ok e) w er m = rw m (token_past er refl)
+    token_walked (Err x) w er m = rw m (token_stopped er (λ e h. cc), tt)
 
 -- walk_tree
 module _ (l : Language) (k : ℕ) (u : List ℕ) where
@@ -125,7 +123,7 @@ module _ (s index : List ℕ) (l : Language) (z : Indexed index s l) (k : ℕ) (
     no_class : range_of l k ≡ none
     no_class = class_none s index l z k kind class class_is no
 
-    pub tree_deep : n ≡ 0 → place_at b (Stopped at) ≡ place_of b (stop l n k (drop at b))
+    pub tree_deep : n ≡ 0 → place_at b (Err at) ≡ place_of b (stop l n k (drop at b))
     unfolding place_at place_of
     tree_deep h =
         sym (ap (λ (m : ℕ). place_of b (stop l m k (drop at b))) h ∙ (ap (place_of b) (stop_deep l k (drop at b) no_class) ∙ ap stopped (position_is b at inside)))
@@ -153,7 +151,7 @@ module _ (s index : List ℕ) (l : Language) (z : Indexed index s l) (k : ℕ) (
           below : (q : ℕ) → q < length b → leb (length b) q ≡ false
           below q h = by_test (leb (length b) q) (λ t. let i = leb-true (length b) q t in absurd (omega arith)) (λ t. t)
 
-      pub tree_unknown : (n ≡ 0 → ⊥) → place ≡ 0 → place_at b (Stopped at) ≡ place_of b (stop l n k (drop at b))
+      pub tree_unknown : (n ≡ 0 → ⊥) → place ≡ 0 → place_at b (Err at) ≡ place_of b (stop l n k (drop at b))
       unfolding place_at place_of
       tree_unknown h p =
           by_test (leb (length b) at)
@@ -193,7 +191,7 @@ stays b (unfit s) f p e = e
 stays b (deep s) f p e = e
 
 module _ (l : Language) (n : ℕ) (s b : List ℕ) (last q to : ℕ) where
-  pub row_done : last ≤ q → place_at b (Past to) ≡ place_of b (stop_all (stop l n) (slice q last s) (drop to b))
+  pub row_done : last ≤ q → place_at b (Ok to) ≡ place_of b (stop_all (stop l n) (slice q last s) (drop to b))
   unfolding stop_all place_at place_of
   row_done h = ap (place_of b) (part_done (λ (v : List ℕ). stop_all (stop l n) v (drop to b)) s q last _ refl h)
 
@@ -201,7 +199,7 @@ module _ (l : Language) (n : ℕ) (s b : List ℕ) (last q to : ℕ) where
     one_more : slice q last s ≡ get_or s q 0 ∷ slice (q + 1) last s
     one_more = sym (part_next (λ (v : List ℕ). v) s q last _ refl h i)
 
-    pub row_next : {w : Walk} {e : ℕ} → w ≡ Past e → place_at b w ≡ place_of b (stop l n (get_or s q 0) (drop to b))
+    pub row_next : {w : Walk} {e : ℕ} → w ≡ Ok e → place_at b w ≡ place_of b (stop l n (get_or s q 0) (drop to b))
         → stop_all (stop l n) (slice (q + 1) last s) (drop e b) ≡ stop_all (stop l n) (slice q last s) (drop to b)
     unfolding stop_all place_at place_of
     row_next {w} {e} ew h =
@@ -209,20 +207,16 @@ module _ (l : Language) (n : ℕ) (s b : List ℕ) (last q to : ℕ) where
         let p = past_of b (stop l n (get_or s q 0) (drop to b)) (drop e b) g in
         rw one_more (rw p refl)
 
-    pub row_stopped : {w : Walk} {p : ℕ} → w ≡ Stopped p → place_at b w ≡ place_of b (stop l n (get_or s q 0) (drop to b))
-        → place_at b w ≡ place_of b (stop_all (stop l n) (slice q last s) (drop to b))
+    pub row_stopped : {w v : Walk} {p : ℕ} → w ≡ Err p → v ≡ Err p → place_at b w ≡ place_of b (stop l n (get_or s q 0) (drop to b))
+        → place_at b v ≡ place_of b (stop_all (stop l n) (slice q last s) (drop to b))
     unfolding stop_all place_at place_of
-    row_stopped {w} {p} ew h =
+    row_stopped {w = w} {p = p} ew ev h =
         let g : stopped p ≡ place_of b (stop l n (get_or s q 0) (drop to b)) = sym (ap (place_at b) ew) ∙ h in
-        ap (place_at b) ew ∙ rw one_more (stays b (stop l n (get_or s q 0) (drop to b)) (stop_all (stop l n) (slice (q + 1) last s)) p g)
+        ap (place_at b) ev ∙ rw one_more (stays b (stop l n (get_or s q 0) (drop to b)) (stop_all (stop l n) (slice (q + 1) last s)) p g)
 
 -- A row that has a kind left lies in the language.
 pub row_inside : (s : List ℕ) (q last : ℕ) → KindsIn s q last → q < last → last ≤ length s
 row_inside s q last h i = let j = h (last - 1) (omega arith) (omega arith) in omega arith
-
--- A position that was gone past lies in the input.
-pub past_in : {n e : ℕ} (w : Walk) → w ≡ Past e → WalkIn n w → e ≤ n
-past_in w y h = rw y at h
 
 -- The operands of a production that was found.
 pub tree_kinds : (s index b : List ℕ) (k at : ℕ) → k < 32 → ((i : ℕ) → get_or b i 0 < 256) → {j class place : ℕ} → j ≡ k → class ≡ get_or index j 0

@@ -1,8 +1,6 @@
 -- Why the position is told that is told: of each refusal, what the bytes up to there decide.
-use Rattle.std.specs.Prelude.{ℕ, ◌+◌, ◌<◌, ◌≤◌, ◌≡◌, true, false, List, [], ◌++◌, length, take}
-use Rattle.outcome.specs.Outcome.{value, refused}
-use Rattle.outcome.specs.declared.Outcome.{Outcome}
-use Rattle.outcome.specs.declared.Outcome.TheVariants.{Accepted, Refused}
+use Rattle.std.specs.Prelude.{ℕ, ◌+◌, ◌<◌, ◌≤◌, ◌≡◌, true, false, List, [], ◌++◌, length, take, Err, Ok}
+use Rattle.outcome.specs.Outcome.{value, refused, Outcome}
 use Rattle.outcome.specs.declared.Reason.{Reason}
 use Rattle.outcome.specs.declared.Reason.TheVariants.{IllegalTree, TooDeep}
 use Rattle.format_language.specs.Language.{Language, is_in}
@@ -37,7 +35,7 @@ pub record Begins (l : Language) (root : ℕ) (front : List ℕ) : Type 0 where
 
 -- The answer for an input that only ends too early: 15, at its own end.
 abbrev pub cut_at : ℕ → Located
-cut_at n = record { outcome = Refused IllegalTree; position = n }
+cut_at n = record { outcome = Err IllegalTree; position = n }
 
 -- The first n bytes decide: no legal tree within the levels begins with them, whatever follows, and any fewer are refused only
 -- because they end.
@@ -48,21 +46,21 @@ pub record DecidedBy (language : List ℕ) (l : Language) (root : ℕ) (bytes : 
 -- Why an outcome comes with a position.
 pub data Because (language : List ℕ) (l : Language) (root : ℕ) (bytes : List ℕ) : Outcome → ℕ → Type 0 where
   -- the whole input is a legal tree
-  whole : {t : Code} → tree_of l root bytes ≡ value t → Because language l root bytes (Accepted 0) 0
+  whole : {t : Code} → tree_of l root bytes ≡ value t → Because language l root bytes (Ok 0) 0
   -- the bytes before the position are a legal tree within the levels, and there are more
   leftover : {p : ℕ} {t : Code} → p < length bytes → tree_of l root (take p bytes) ≡ value t
-      → Because language l root bytes (Refused IllegalTree) p
+      → Because language l root bytes (Err IllegalTree) p
   -- the input ends: no front of it, nor the input itself, is a legal tree within the levels, and each is refused only because it ends
   ended : ((q : ℕ) (w : Begins l root (take q bytes)) → w.behind ≡ [] → ⊥)
       → ((q : ℕ) → q ≤ length bytes → locate_tree language root (take q bytes) ≡ cut_at q)
-      → Because language l root bytes (Refused IllegalTree) (length bytes)
+      → Because language l root bytes (Err IllegalTree) (length bytes)
   -- a name stands at the position with which no legal tree goes on
-  unknown : {p : ℕ} → p < length bytes → DecidedBy language l root bytes (p + 1) → Because language l root bytes (Refused IllegalTree) p
+  unknown : {p : ℕ} → p < length bytes → DecidedBy language l root bytes (p + 1) → Because language l root bytes (Err IllegalTree) p
   -- a token of two bytes stands at the position with which no legal tree goes on
   out_of_range : {p : ℕ} → p + 1 < length bytes → DecidedBy language l root bytes (p + 2)
-      → Because language l root bytes (Refused IllegalTree) p
+      → Because language l root bytes (Err IllegalTree) p
   -- the bytes before the position already ask for level 65
-  too_deep_lem : {p : ℕ} → p ≤ length bytes → DecidedBy language l root bytes p → Because language l root bytes (Refused TooDeep) p
+  too_deep_lem : {p : ℕ} → p ≤ length bytes → DecidedBy language l root bytes p → Because language l root bytes (Err TooDeep) p
 
 -- Every answer about a tree that is looked at has such a reason.
 abbrev pub PositionsHaveReasons : Type 0
@@ -75,5 +73,5 @@ PositionsHaveReasons =
 abbrev pub UnreadIsZero : Type 0
 UnreadIsZero =
     (language : List ℕ) (root : ℕ) (bytes : List ℕ)
-    → ((r : Reason) → language_of language ≡ refused r → locate_tree language root bytes ≡ record { outcome = Refused r; position = 0 })
+    → ((r : Reason) → language_of language ≡ refused r → locate_tree language root bytes ≡ record { outcome = Err r; position = 0 })
     × ((l : Language) → language_of language ≡ value l → is_in l root ≡ false → (locate_tree language root bytes).position ≡ 0)

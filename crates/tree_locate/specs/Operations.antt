@@ -1,7 +1,6 @@
 -- The operation that tells where the check of a tree stopped (paper 01, "Check a tree").
 use Rattle.std.specs.Prelude.{ℕ, ◌-◌, not, List, [], ◌∷◌, length}
-use Rattle.outcome.specs.Outcome.{Result, value, refused, refuse_if, ◌>>=◌}
-use Rattle.outcome.specs.declared.Outcome.{Outcome}
+use Rattle.outcome.specs.Outcome.{Result, value, refused, refuse_if, ◌>>=◌, Outcome}
 use Rattle.outcome.specs.declared.Reason.TheVariants.{UnknownRoot}
 use Rattle.format_language.specs.Language.{Language, is_in}
 use Rattle.format_language.specs.LanguageFile.{language_of}

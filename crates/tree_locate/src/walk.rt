@@ -8,35 +8,26 @@ ghost use Rattle.tree_reader.specs.Inner.Positions.{KindsIn};
 ghost use Rattle.tree_locate.specs.Faults.{stop_token, stop_all, stop};
 ghost use Rattle.tree_locate.specs.Inner.Places.{place_of, place_at, WalkIn};
 
-use format_fields::bytes::to_usize;
-use tree_reader::node::{Read, Syntax, place_at, production_place, token};
+use tree_reader::node::{Syntax, place_at, production_place, token};
 use tree_reader::operands::{first_operand, last_operand};
 
 // How many bytes a token has.
 const TOKEN: usize = 2;
 
 // The position behind what was read; or the one where reading stops.
-#[derive(Clone, Copy)]
-pub enum Walk {
-    Past(usize),
-    Stopped(usize),
-}
+pub type Walk = Result<usize, usize>;
 
 // A token of the class whose field stands before `class`: reading stops where it starts if it is out of the range, at the end of the
 // input if that comes in its middle.
 fn walk_token(language: &[u8], class: usize, tree: &[u8], at: usize) -> Walk
     requires { (at ≤ length tree.now) × (0 < class) × IsClass language.now (class - 1) }
-    ensures { (place_at tree.now result ≡ place_of tree.now (stop_token (class_range language.now (class - 1)) (drop at tree.now)))
-        × WalkIn (length tree.now) result }
+    ensures is { place_at tree.now result ≡ place_of tree.now (stop_token (class_range language.now (class - 1)) (drop at tree.now)) }
+    ensures within { WalkIn (length tree.now) result }
 {
     if tree.len() - at < TOKEN {
-        return Walk::Stopped(tree.len());
+        return Err(tree.len());
     }
-    match token(language, class, tree, at) {
-        Read::End(e) => Walk::Past(e),
-        Read::Deep => Walk::Stopped(at),
-        Read::Broken => Walk::Stopped(at),
-    }
+    token(language, class, tree, at).map_err(|_| at)
 }
 
 // Where the reading of a tree of a kind stops that starts at a position, with so many levels left; a token is no level. A production
@@ -55,16 +46,16 @@ pub fn walk_tree(
         → place_at tree.now result ≡ place_of tree.now (stop l levels kind (drop at tree.now)) }
     ensures within { WalkIn (length tree.now) result }
 {
-    let class = place_at(index, to_usize(kind));
+    let class = place_at(index, usize::from(kind));
     if class != 0 {
         return walk_token(language, class, tree, at);
     }
     if levels == 0 {
-        return Walk::Stopped(at);
+        return Err(at);
     }
     let place = production_place(Syntax::Tree, index, class, kind, tree, at);
     if place == 0 {
-        return Walk::Stopped(at);
+        return Err(at);
     }
     let first = first_operand(place);
     let last = last_operand(language, place);
@@ -87,15 +78,9 @@ fn walk_row(
         → place_at tree.now result ≡ place_of tree.now (stop_all (stop l levels) (slice first last language.now) (drop at tree.now)) }
     ensures within { WalkIn (length tree.now) result }
 {
-    let mut q = first;
     let mut to = at;
-    while q < last {
-        let walk = walk_tree(language, index, language[q], tree, to, levels);
-        let Walk::Past(e) = walk else {
-            return walk;
-        };
-        to = e;
-        q += 1;
+    for q in first..last {
+        to = walk_tree(language, index, language[q], tree, to, levels)?;
     }
-    Walk::Past(to)
+    Ok(to)
 }

@@ -7,24 +7,22 @@ use mathlib.Core.Option
 use mathlib.Core.Option.{some}
 use native.Mathlib.Omega.{arith}
 use lib.ListN.{length, get_or, set, take, drop, length-append, length-drop}
-use lib.Seq.{slice, sets, sets-eq, get_or-drop}
+use lib.Seq.{slice, sets, sets-eq, get_or-drop, drop-drop, length-take-le}
 use lib.Dec.{eqb}
+use borrow.Rule.Slice.PartMut.{put_mid}
 use borrow.Author.Tests.{ne_eqb}
 use Rattle.format_fields.specs.Fields.{pair_at, two_bytes}
 use Rattle.format_fields.specs.Inner.Writing.{spliced}
 use Rattle.format_fields.proofs.Truth.{by_test}
 use Rattle.format_fields.proofs.Lists.{part_done, part_next}
 use Rattle.format_fields.proofs.Codec.{bytes_from}
-use Rattle.format_fields.proofs.Splices.{splice_splice, length_spliced, nothing_spliced}
+use Rattle.format_fields.proofs.Splices.{opened, splice_splice, length_spliced, nothing_spliced}
 use Rattle.format_language.specs.Language.{Language, arguments_of}
 use Rattle.tree_reader.specs.Code.{Code, node, token, argument, Codes, nil, cons}
 use Rattle.tree_reader.specs.Syntax.{done, tree, write, write_all, read_all, read}
 use Rattle.tree_reader.specs.Operations.{tree_levels}
 use Rattle.tree_reader.specs.Inner.Index.{Indexed}
-use Rattle.tree_reader.specs.Inner.Positions as At
-use Rattle.tree_reader.specs.Inner.Positions.{production_place, EndsBy, rest_at, rest_of}
-use Rattle.tree_reader.specs.declared.node.Read.{Read}
-use Rattle.tree_reader.specs.declared.node.Read.TheVariants.{End, Deep, Broken}
+use Rattle.tree_reader.specs.Inner.Positions.{production_place}
 use Rattle.tree_reader.specs.declared.node.Syntax.TheVariants.{Tree}
 use Rattle.tree_reader.proofs.Sound.{read_done}
 use Rattle.format_card.specs.Card.{Card, sees}
@@ -67,43 +65,26 @@ module _ (x : Bool) (b : List ℕ) (at : ℕ) (o : List ℕ) (n : ℕ) (there : 
   token_hidden o' e w = rw e w
 
   module _ (e : x ≡ true) where
-    token_is : cond x (take 2 (drop at b)) hidden_block ≡ get_or b at 0 ∷ get_or b (at + 1) 0 ∷ []
-    token_is = ap (λ (y : Bool). cond y (take 2 (drop at b)) hidden_block) e ∙ ap (take 2) (two b at (omega arith))
+    token_is : take 2 (drop at b) ≡ cond x (take 2 (drop at b)) hidden_block
+    token_is = sym (ap (λ (y : Bool). cond y (take 2 (drop at b)) hidden_block) e)
 
-    pub token_short : length o ≤ n + 1 → Puts (cond x (take 2 (drop at b)) hidden_block) o o n (n + 2)
-    token_short h =
-        puts_same (sym token_is) (record { end = refl; bytes = λ i. absurd (omega arith) })
+    token_long : length (take 2 (drop at b)) ≡ 2
+    token_long = length-take-le 2 (drop at b) (omega (arith, length-drop at b))
 
-    pub token_put : n + 1 < length o → Puts (cond x (take 2 (drop at b)) hidden_block) o (set (set o n (get_or b at 0)) (n + 1) (get_or b (at + 1) 0)) n (n + 2)
-    token_put h =
-        let e : n + 1 ≡ suc n = omega arith in
-        let w = set_stored o n (get_or b at 0 ∷ get_or b (at + 1) 0 ∷ []) (omega arith) in
-        puts_same (sym token_is)
-        (record { end = refl; bytes = λ i. ap (λ (j : ℕ). set (set o n (get_or b at 0)) j (get_or b (at + 1) 0)) e ∙ w })
+    pub token_short : length o < n + 2 → Puts (cond x (take 2 (drop at b)) hidden_block) o o n (n + 2)
+    token_short h = puts_same token_is (record { end = omega (arith, token_long); bytes = λ i. absurd (omega arith) })
 
--- end_at
-module _ (s index : List ℕ) (k : ℕ) (b : List ℕ) (at levels : ℕ) (f : Read)
-    (is : (l : Language) → Indexed index s l → rest_at b f ≡ rest_of (read tree l [] levels k (drop at b))) where
-  same_rest : (l : Language) (a : Code) (r : List ℕ) → Indexed index s l → read tree l [] levels k (drop at b) ≡ done a r → rest_at b f ≡ At.rest r
-  same_rest l a r z e = is l z ∙ ap rest_of e
-
-  pub ends_there : {e : ℕ} → f ≡ End e → EndsBy (length b) f → EndsTree s index k b at levels e
-  ends_there {e} h i = record {
-    inside = rw h at i;
-    left = λ l a r z q. let w : At.rest (drop e b) ≡ At.rest r = ap (rest_at b) (sym h) ∙ same_rest l a r z q in cc;
-  }
-
-  pub ends_deep : f ≡ Deep → at ≤ length b → EndsTree s index k b at levels at
-  ends_deep h i = record {
-    inside = i;
-    left = λ l a r z q. let w : At.deep ≡ At.rest r = ap (rest_at b) (sym h) ∙ same_rest l a r z q in let y : ◌≡◌ {A = ℕ} 0 1 = cc in absurd (omega arith);
-  }
-
-  pub ends_broken : f ≡ Broken → at ≤ length b → EndsTree s index k b at levels at
-  ends_broken h i = record {
-    inside = i;
-    left = λ l a r z q. let w : At.broken ≡ At.rest r = ap (rest_at b) (sym h) ∙ same_rest l a r z q in let y : ◌≡◌ {A = ℕ} 0 1 = cc in absurd (omega arith);
-  }
+    pub token_put : (o' v : List ℕ) → v ≡ take (at + 2 - at) (drop at b) → o' ≡ put_mid n (n + 2 - n) o v
+        → Puts (cond x (take 2 (drop at b)) hidden_block) o o' n (n + 2)
+    token_put o' v ev eo =
+        let two : at + 2 - at ≡ 2 = omega arith in
+        let w : v ≡ take 2 (drop at b) = ev ∙ ap (λ (j : ℕ). take j (drop at b)) two in
+        let k : n + (n + 2 - n) ≡ n + length (take 2 (drop at b)) = omega (arith, token_long) in
+        puts_same token_is (record {
+          end = omega (arith, token_long);
+          bytes = λ i.
+              eo ∙ (ap (put_mid n (n + 2 - n) o) w ∙ rw (opened o n (take 2 (drop at b)), drop-drop (n + 2 - n) n o) (ap (λ (j : ℕ). take n o ++ (take 2 (drop at b) ++ drop j o)) k));
+        })
 
 -- A block that is hidden, a token and a production that are seen.
 pub masked_hidden : (l : Language) (card : Card) (k : ℕ) (a : Code) → sees card k ≡ false → masked l card k a ≡ hidden_block

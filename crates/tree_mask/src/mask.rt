@@ -8,9 +8,8 @@ use crate::walk::mask_tree;
 use check_operations::open::open_language;
 use format_card::lowest::lowest;
 use format_card::read::read_card;
-use outcome::{Answer, Outcome, Reason, accept, refuse};
+use outcome::{Answer, Outcome, Reason};
 use tree_reader::index::INDEX;
-use tree_reader::node::Read;
 use tree_reader::read::{TREE_LEVELS, read_tree};
 
 // The masked form of a legal tree of a kind: 17 where it is longer than the output. It has no more bytes than the tree; an output
@@ -22,21 +21,19 @@ fn mask_legal(
     kind: u8,
     tree: &[u8],
     output: &mut [u8],
-) -> Answer
+) -> Outcome
     requires { Ready index.now language.now kind tree.now 0 }
-    ensures { GivesLegal language.now index.now seen kind tree.now output.old output.new result.outcome }
+    ensures { GivesLegal language.now index.now seen kind tree.now output.old output.new result }
 {
     if tree.len() <= output.len() {
-        let length = mask_tree(language, index, seen, kind, tree, output);
-        return accept(length);
+        return Ok(mask_tree(language, index, seen, kind, tree, output));
     }
-    let mut nowhere = [0u8; 1];
-    let length = mask_tree(language, index, seen, kind, tree, &mut nowhere);
+    let length = mask_tree(language, index, seen, kind, tree, &mut []);
     if output.len() < length {
-        return refuse(Reason::OutputTooShort);
+        return Err(Reason::OutputTooShort);
     }
     mask_tree(language, index, seen, kind, tree, output);
-    accept(length)
+    Ok(length)
 }
 
 // The masked form of the tree of a kind: 15 and 16 in reading order, 17 where it is longer than the output. The whole tree is
@@ -48,34 +45,33 @@ fn mask_read(
     kind: u8,
     tree: &[u8],
     output: &mut [u8],
-) -> Answer
+) -> Outcome
     requires { Ready index.now language.now kind tree.now 0 }
-    ensures { GivesTree language.now index.now seen kind tree.now output.old output.new result.outcome }
+    ensures { GivesTree language.now index.now seen kind tree.now output.old output.new result }
 {
-    match read_tree(language, index, kind, tree, 0, TREE_LEVELS) {
-        Read::End(e) => {
-            if e != tree.len() {
-                return refuse(Reason::IllegalTree);
-            }
-            mask_legal(language, index, seen, kind, tree, output)
-        }
-        Read::Deep => refuse(Reason::TooDeep),
-        Read::Broken => refuse(Reason::IllegalTree),
+    let e = read_tree(language, index, kind, tree, 0, TREE_LEVELS)?;
+    if e != tree.len() {
+        return Err(Reason::IllegalTree);
     }
+    mask_legal(language, index, seen, kind, tree, output)
 }
 
-// Mask: the lowest of 1 to 4 for the language and the card, 14 to 16 for the tree, 17 where the masked tree is longer
-// than the output.
+// The masked form of a tree: the lowest of 1 to 4 for the language and the card, 14 to 16 for the tree, 17 where the masked tree is
+// longer than the output.
+fn mask_opened(language: &[u8], root: u32, card: &[u8], tree: &[u8], output: &mut [u8]) -> Outcome
+    ensures { (result ≡ (mask_tree language.now root card.now tree.now output.old).outcome)
+        × (output.new ≡ (mask_tree language.now root card.now tree.now output.old).output) }
+{
+    let mut index = [0u16; INDEX];
+    let opened = open_language(language, root, &mut index);
+    let seen = lowest(opened, read_card(card))?;
+    mask_read(language, &index, seen, root as u8, tree, output)
+}
+
+// Mask a tree for the holder of a card.
 pub fn mask(language: &[u8], root: u32, card: &[u8], tree: &[u8], output: &mut [u8]) -> Answer
     ensures { (result.outcome ≡ (mask_tree language.now root card.now tree.now output.old).outcome)
         × (output.new ≡ (mask_tree language.now root card.now tree.now output.old).output) }
 {
-    let seen = read_card(card);
-    let on_card = seen.outcome;
-    let mut index = [0u16; INDEX];
-    let on_language = open_language(language, root, &mut index);
-    if let Outcome::Refused(reason) = lowest(on_language, on_card) {
-        return refuse(reason);
-    }
-    mask_read(language, &index, seen.kinds, root as u8, tree, output)
+    Answer::from(mask_opened(language, root, card, tree, output))
 }

@@ -1,6 +1,5 @@
 // A row of trees that a walk goes over.
 ghost use Rattle.std.specs.Prelude.{◌≡◌, ◌+◌, ◌<◌, ◌≤◌, length};
-ghost use Rattle.tree_mask.specs.Inner.Rows.{whole_row, next_row, end_row, inner_row};
 
 use tree_reader::operands::operands_of;
 use tree_reader::read::TREE_LEVELS;
@@ -16,57 +15,57 @@ pub struct Row {
     pub text: usize,
 }
 
-// The row that the whole tree is by itself, of whatever kind.
-pub fn whole_row() -> Row
-    ensures { result ≡ whole_row }
-{
-    Row {
-        kind: 0,
-        stop: 0,
-        tree: 0,
-        levels: TREE_LEVELS,
-        text: 0,
-    }
-}
+impl Row {
+    ghost use Rattle.tree_mask.specs.Inner.Rows.{whole_row, next_row, end_row, inner_row};
 
-// The row behind its next tree, which ends at a position, as its masked form does.
-pub fn next_row(row: Row, tree: usize, text: usize) -> Row
-    requires { row.kind < 65536 }
-    ensures { result ≡ next_row row tree text }
-{
-    Row {
-        kind: row.kind + 1,
-        stop: row.stop,
-        tree: tree,
-        levels: row.levels,
-        text: text,
+    // The row that the whole tree is by itself, of whatever kind.
+    pub fn whole() -> Row
+        ensures { result ≡ whole_row }
+    {
+        Row {
+            kind: 0,
+            stop: 0,
+            tree: 0,
+            levels: TREE_LEVELS,
+            text: 0,
+        }
     }
-}
 
-// The row at its end.
-pub fn end_row(row: Row) -> Row
-    ensures { result ≡ end_row row }
-{
-    Row {
-        kind: row.stop,
-        stop: row.stop,
-        tree: row.tree,
-        levels: row.levels,
-        text: row.text,
+    // The row behind its next tree, which ends at a position, as its masked form does.
+    pub fn behind(self, tree: usize, text: usize) -> Row
+        requires { self.kind < 65536 }
+        ensures { result ≡ next_row self tree text }
+    {
+        Row {
+            kind: self.kind + 1,
+            tree,
+            text,
+            ..self
+        }
     }
-}
 
-// The row of the operands of its next tree, whose production's field stands before `place`.
-pub fn inner_row(language: &[u8], place: usize, row: Row) -> Row
-    requires { (place + 4 ≤ length language.now) × (length language.now ≤ 1024) × (0 < row.levels) × (row.tree + 1 < 18446744073709551616) × (row.text ≤ row.tree) }
-    ensures { result ≡ inner_row language.now place row }
-{
-    let operands = operands_of(language, place);
-    Row {
-        kind: operands.first,
-        stop: operands.last,
-        tree: row.tree + 1,
-        levels: row.levels - 1,
-        text: row.text + 1,
+    // The row at its end.
+    pub fn ended(self) -> Row
+        ensures { result ≡ end_row self }
+    {
+        Row {
+            kind: self.stop,
+            ..self
+        }
+    }
+
+    // The row of the operands of its next tree, whose production's field stands before `place`.
+    pub fn inner(self, language: &[u8], place: usize) -> Row
+        requires { (place + 4 ≤ length language.now) × (length language.now ≤ 1024) × (0 < self.levels) × (self.tree + 1 < 18446744073709551616) × (self.text ≤ self.tree) }
+        ensures { result ≡ inner_row language.now place self }
+    {
+        let operands = operands_of(language, place);
+        Row {
+            kind: operands.first,
+            stop: operands.last,
+            tree: self.tree + 1,
+            levels: self.levels - 1,
+            text: self.text + 1,
+        }
     }
 }

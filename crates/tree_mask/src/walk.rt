@@ -7,11 +7,10 @@ ghost use Rattle.tree_mask.specs.Mask.{hidden_block};
 ghost use Rattle.tree_mask.specs.Inner.Rows.{Walkable};
 ghost use Rattle.tree_mask.specs.Inner.Masking.{Puts, EndsTree, MasksRow, Advances, MasksWhole};
 
-use crate::row::{Row, end_row, inner_row, next_row, whole_row};
+use crate::row::Row;
 use format_card::set::in_set;
-use format_fields::bytes::to_usize;
 use tree_reader::index::INDEX;
-use tree_reader::node::{Read, Syntax, place_at, production_place};
+use tree_reader::node::{Syntax, place_at, production_place};
 use tree_reader::read::read_tree;
 
 // The byte that stands for a hidden block.
@@ -29,21 +28,16 @@ fn end_at(
     requires { Ready index.now language.now kind tree.now at }
     ensures { EndsTree language.now index.now kind tree.now at levels result }
 {
-    match read_tree(language, index, kind, tree, at, levels) {
-        Read::End(e) => e,
-        Read::Deep => at,
-        Read::Broken => at,
-    }
+    read_tree(language, index, kind, tree, at, levels).unwrap_or(at)
 }
 
 // Puts a byte behind the first n, if there is room for it.
 fn put(byte: u8, out: &mut [u8], n: usize)
     ensures { Puts (byte ∷ []) out.old out.new n (n + 1) }
 {
-    if out.len() <= n {
-        return;
+    if n < out.len() {
+        out[n] = byte;
     }
-    out[n] = byte;
 }
 
 // Puts the two bytes of a token behind the first n, or one byte where it is hidden, and gives where they end.
@@ -55,12 +49,11 @@ fn put_token(seen: bool, tree: &[u8], at: usize, out: &mut [u8], n: usize) -> us
         put(HIDDEN, out, n);
         return n + 1;
     }
-    if out.len() <= n + 1 {
-        return n + 2;
+    let end = n + 2;
+    if end <= out.len() {
+        out[n..end].copy_from_slice(&tree[at..at + 2]);
     }
-    out[n] = tree[at];
-    out[n + 1] = tree[at + 1];
-    n + 2
+    end
 }
 
 // The next tree of a row, of a kind that is hidden: one byte. Gives the row behind it.
@@ -77,10 +70,10 @@ fn mask_hidden(
 {
     let e = end_at(language, index, kind, tree, row.tree, row.levels);
     if e <= row.tree {
-        return end_row(row);
+        return row.ended();
     }
     put(HIDDEN, out, row.text);
-    next_row(row, e, row.text + 1)
+    row.behind(e, row.text + 1)
 }
 
 // Puts the masked forms of the trees of a row, one after the other, and gives the row at its end. Behind the last tree nothing is
@@ -102,14 +95,14 @@ fn mask_row(
         let q = next.kind;
         let at = next.tree;
         let kind = language[q];
-        let class = place_at(index, to_usize(kind));
+        let class = place_at(index, usize::from(kind));
         let place = production_place(Syntax::Tree, index, class, kind, tree, at);
         if place == 0 {
             if tree.len() - at < 2 {
-                return end_row(next);
+                return next.ended();
             }
             let text = put_token(in_set(seen, kind), tree, at, out, next.text);
-            next = next_row(next, at + 2, text);
+            next = next.behind(at + 2, text);
             continue;
         }
         if !in_set(seen, kind) {
@@ -117,20 +110,20 @@ fn mask_row(
             continue;
         }
         if next.levels == 0 {
-            return end_row(next);
+            return next.ended();
         }
         put(tree[at], out, next.text);
-        let inner = inner_row(language, place, next);
+        let inner = next.inner(language, place);
         if next.kind + 1 == next.stop {
             next = inner;
             continue;
         }
         if inner.stop <= inner.kind {
-            next = next_row(next, inner.tree, inner.text);
+            next = next.behind(inner.tree, inner.text);
             continue;
         }
         let ends = mask_row(language, index, seen, tree, inner, out);
-        next = next_row(next, ends.tree, ends.text);
+        next = next.behind(ends.tree, ends.text);
     }
     next
 }
@@ -151,7 +144,7 @@ pub fn mask_tree(
         put(HIDDEN, out, 0);
         return 1;
     }
-    let class = place_at(index, to_usize(kind));
+    let class = place_at(index, usize::from(kind));
     let place = production_place(Syntax::Tree, index, class, kind, tree, 0);
     if place == 0 {
         if tree.len() < 2 {
@@ -160,7 +153,7 @@ pub fn mask_tree(
         return put_token(true, tree, 0, out, 0);
     }
     put(tree[0], out, 0);
-    let row = inner_row(language, place, whole_row());
+    let row = Row::whole().inner(language, place);
     let ends = mask_row(language, index, seen, tree, row, out);
     ends.text
 }

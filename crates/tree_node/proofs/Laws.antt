@@ -1,4 +1,5 @@
 -- A path can be extended by the numbers of the arguments that are told, and by no other.
+use Rattle.std.specs.Prelude.{Ok}
 use Prim.Native.Nat.{ℕ, zero, suc, ◌+◌, ◌≤◌, ◌<◌}
 use mathlib.Core.Path.{◌≡◌, refl, ap, ◌∙◌}
 use mathlib.Core.Logic.{◌⊎◌, inl, inr}
@@ -7,7 +8,6 @@ use mathlib.Core.Option.{Option, none, some, get_or}
 use native.Mathlib.Omega.{arith}
 use lib.ListN.{length}
 use Rattle.outcome.specs.Outcome.{Result, value, refused}
-use Rattle.outcome.specs.declared.Outcome.TheVariants.{Accepted}
 use Rattle.format_fields.proofs.Codec.{step_value}
 use Rattle.check_operations.proofs.Opening.{unaccepted}
 use Rattle.format_language.specs.Language.{Language, arguments_of}
@@ -71,7 +71,7 @@ module _ {l : Language} (start : ℕ) where
   numbered_none (typed_token e w) i h = refl
   numbered_none (typed_argument e) i h = refl
 
-accepted_block : (m : Result Block) → (node_shown m).outcome ≡ Accepted 0 → (b : Block) × (m ≡ value b)
+accepted_block : (m : Result Block) → (node_shown m).outcome ≡ Ok 0 → (b : Block) × (m ≡ value b)
 accepted_block (value b) e = (b, refl)
 accepted_block (refused r) e = unaccepted {n = 0} refl e
 

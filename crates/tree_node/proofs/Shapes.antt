@@ -2,8 +2,9 @@
 use Prim.Native.Nat.{ℕ, zero, suc, ◌-◌, ◌<◌, ◌≤◌}
 use mathlib.Core.Path.{◌≡◌, refl, sym, ap, ◌∙◌}
 use mathlib.Core.List.{List, []}
-use mathlib.Core.Option.{none, some}
+use mathlib.Core.Option.{some}
 use native.Mathlib.Omega.{arith}
+use Rattle.std.specs.Prelude.{Some, None}
 use lib.ListN.{length, get_or, length-drop}
 use lib.Seq.{slice, length-take-le}
 use lib.Dec.{leb}
@@ -11,7 +12,6 @@ use borrow.Author.Tests.{leb-true, leb-false}
 use Rattle.format_fields.proofs.Truth.{by_test, none_some}
 use Rattle.format_fields.proofs.Lists.{part_done}
 use Rattle.outcome.specs.Outcome.{value}
-use Rattle.outcome.specs.declared.Outcome.TheVariants.{Accepted}
 use Rattle.format_language.specs.Language.{Language}
 use Rattle.tree_reader.specs.Code.{Code, node, token, Codes}
 use Rattle.tree_reader.specs.Typing.{kind_at, Typed, TypedAll, typed_node, typed_token, typed_argument, typed_nil, typed_cons}
@@ -24,7 +24,7 @@ use Rattle.tree_index.proofs.Lying.{node_byte}
 use Rattle.tree_block.specs.Blocks.{block_of}
 use Rattle.tree_node.specs.Nodes.{count, name_of, argument_count}
 use Rattle.tree_node.specs.Operations.{node_shown}
-use Rattle.tree_node.specs.Answers.{Says}
+use Rattle.tree_node.specs.Answers.{Describes}
 
 -- As many trees as kinds.
 pub as_many : {l : Language} {ts : Codes} {ks : List ℕ} → TypedAll l [] ts ks → count ts ≡ length ks
@@ -67,7 +67,7 @@ module _ (x s b : List ℕ) (at k : ℕ) (l : Language) (t : Code) (h : There x 
         none_some (sym (apart l h.index_of.apart k p ks e) ∙ class_known s x l h.index_of.indexed k small class class_is c)
     is_token c u (typed_argument {i = i} {j = m} e) = no_use i m e
 
-    pub token_shown : (class ≡ 0 → ⊥) → Says (node_shown (value (block_of at k t))) (record { outcome = Accepted 0; kind = k; name = 256; arguments = 0 })
+    pub token_shown : (class ≡ 0 → ⊥) → Describes (node_shown (value (block_of at k t))) (record { kind = k; name = None; arguments = 0 })
     token_shown c =
         let y = is_token c t h.lies.typed in
         rw y.1 (record { outcome = refl; kind = refl; name = refl; arguments = refl })
@@ -95,7 +95,7 @@ module _ (x s b : List ℕ) (at k : ℕ) (l : Language) (t : Code) (h : There x 
       name_inside = byte.0
 
       pub production_shown : (q e to : ℕ) → Opens x s b at k l t q e to → (p n : ℕ) → p ≡ get_or b at 0 → n ≡ e - q
-          → Says (node_shown (value (block_of at k t))) (record { outcome = Accepted 0; kind = k; name = p; arguments = n })
+          → Describes (node_shown (value (block_of at k t))) (record { kind = k; name = Some p; arguments = n })
       production_shown q e to o p n ep en = record {
         outcome = refl;
         kind = refl;

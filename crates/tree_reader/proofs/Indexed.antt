@@ -16,7 +16,7 @@ use Rattle.format_fields.specs.Lists.{all, first}
 use Rattle.format_fields.specs.Inner.Places.{field_end, places, key_at, slot_at}
 use Rattle.format_fields.proofs.Truth.{by_test}
 use Rattle.format_fields.proofs.Lists.{all_true, part_next}
-use Rattle.format_language.specs.Language.{class, Language, range_at, range_of, arguments_at, arguments_of, kind_key, production_key}
+use Rattle.format_language.specs.Language.{Language, range_at, range_of, arguments_at, arguments_of, kind_key, production_key}
 use Rattle.format_language.specs.LanguageFile.{is_kind, entries_of}
 use Rattle.format_language.specs.Inner.Entries.{entry_whole, entry_at, class_range, IsClass, IsProduction, Holds}
 use Rattle.format_language.proofs.Facts.{entry_facts, class_is, production_is}

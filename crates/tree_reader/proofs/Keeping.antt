@@ -1,5 +1,5 @@
 -- Laws of the ends that are kept.
-use Prim.Native.Nat.{ℕ, zero, suc, ◌+◌, ◌*◌, ◌<◌}
+use Prim.Native.Nat.{ℕ, ◌+◌, ◌*◌, ◌<◌}
 use mathlib.Core.Path.{◌≡◌, refl, sym, ap, ◌∙◌}
 use mathlib.Core.Logic.{◌⊎◌, inl, inr, ⊎_elim}
 use mathlib.Core.Bool.{Bool, true, false}
@@ -13,9 +13,8 @@ use Rattle.tree_reader.specs.Inner.Ends.{Kept}
 
 -- What stands behind the key of a term is kept of it, unless it is 0.
 pub kept_there : (ends : List ℕ) (k at slot e : ℕ) → k < 32 → get_or ends (2 * slot) 0 ≡ at * 32 + k → e ≡ get_or ends (2 * slot + 1) 0
-    → (e ≡ 0) ⊎ Kept ends k at e
-kept_there ends k at slot zero h q i = inl refl
-kept_there ends k at slot (suc e) h q i = inr (record { slot = slot; key = q; end = sym i; some = omega arith; kind = h })
+    → (e ≡ 0 → ⊥) → Kept ends k at e
+kept_there ends k at slot e h q i z = record { slot = slot; key = q; end = sym i; some = omega (arith, z); kind = h }
 
 -- What is kept after one end was put in was kept before, or is that end.
 module _ (ends : List ℕ) (kind at slot end : ℕ) (small : kind < 32) (inside : 2 * slot + 1 < length ends) where

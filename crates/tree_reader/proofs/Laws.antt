@@ -1,12 +1,12 @@
 -- The definitions by position, one turn at a time, in the terms of the code: a law for each return.
+use Rattle.std.specs.Prelude.{Err, Ok}
+use Rattle.tree_reader.specs.declared.node.ReadError.{ReadError}
+use Rattle.tree_reader.specs.declared.node.ReadError.TheVariants.{Deep, Broken}
 use Prim.Native.Nat.{ℕ, suc, ◌+◌, ◌*◌, ◌-◌, ◌<◌, ◌≤◌}
 use mathlib.Core.Path.{◌≡◌, refl, sym, ap, ◌∙◌}
-use mathlib.Core.Logic.{inl, inr}
-use mathlib.Core.List.{List, [], ◌∷◌}
+use mathlib.Core.List.{List}
 use mathlib.Core.Bool.{Bool, true, false, cond}
 use native.Mathlib.Omega.{arith}
-use types.Run.{OneOf}
-use denote.Enum.Declared.{tag_of}
 use lib.ListN.{length, get_or, get_or-eq_default}
 use lib.Dec.{ltb, leb, eqb}
 use borrow.Author.Tests.{ltb-true, ltb-false, leb-false, eqb-true, eqb-false, lt-ltb, le-ltb, leb-true, le-leb, lt-leb, eq-eqb, ne_eqb}
@@ -16,13 +16,10 @@ use Rattle.format_language.specs.Language.{production_key, in_range}
 use Rattle.format_language.specs.Inner.Entries.{class_range, IsClass}
 use Rattle.tree_reader.specs.declared.node.Syntax.{Syntax}
 use Rattle.tree_reader.specs.declared.node.Syntax.TheVariants.{Tree, Code}
-use Rattle.tree_reader.specs.declared.node.Read.{Read}
-use Rattle.tree_reader.specs.declared.node.Read.TheVariants.{End, Deep, Broken}
 use Rattle.tree_reader.specs.declared.node.Node.{Node}
 use Rattle.tree_reader.specs.declared.node.Node.TheVariants.{Leaf, Operands}
 use Rattle.tree_reader.specs.Inner.Index.{Sound}
-use Rattle.tree_reader.specs.contracts.node.Read.{the_type}
-use Rattle.tree_reader.specs.Inner.Positions.{name_length, production_place, token_at, operands_at, name_at, argument_is, argument_at, numbered_at, tree_node, class_place, code_leaf, code_node, node_at, leaf_at, operands_from, past_at, read_at, EndsBy, NodeIn, KindsIn}
+use Rattle.tree_reader.specs.Inner.Positions.{name_length, production_place, token_at, operands_at, name_at, argument_is, argument_at, numbered_at, tree_node, class_place, code_leaf, code_node, node_at, leaf_at, operands_from, past_at, read_at, EndsBy, NodeIn, KindsIn, Read}
 
 -- Past the end of a list its default stands.
 past_zero : (u : List ℕ) (i : ℕ) → length u ≤ i → get_or u i 0 ≡ 0
@@ -34,32 +31,32 @@ at_key index e d = e ∙ ap (λ (i : ℕ). get_or index i 0) d
 
 -- token
 module _ (s : List ℕ) (place : ℕ) (b : List ℕ) (at : ℕ) where
-  pub token_none : place ≡ 0 → Broken ≡ token_at s place b at
+  pub token_none : place ≡ 0 → Err Broken ≡ token_at s place b at
   unfolding token_at
   token_none h = simp (eq-eqb place 0 h)
 
-  pub token_short : (place ≡ 0 → ⊥) → length b - at < 2 → Broken ≡ token_at s place b at
+  pub token_short : (place ≡ 0 → ⊥) → length b - at < 2 → Err Broken ≡ token_at s place b at
   unfolding token_at
   token_short h i = simp (ne_eqb place 0 h, lt-ltb (length b - at) 2 i)
 
   module _ {v : ℕ} {x : Bool} (some : place ≡ 0 → ⊥) (there : 2 ≤ length b - at) (ev : v ≡ pair_at b at)
       (ex : x ≡ in_range (class_range s (place - 1)) v) where
-    pub token_out : x ≡ false → Broken ≡ token_at s place b at
+    pub token_out : x ≡ false → Err Broken ≡ token_at s place b at
     unfolding token_at
     token_out h = cc (ne_eqb place 0 some, le-ltb (length b - at) 2 there)
 
-    pub token_good : x ≡ true → End (at + 2) ≡ token_at s place b at
+    pub token_good : x ≡ true → Ok (at + 2) ≡ token_at s place b at
     unfolding token_at
     token_good h = cc (ne_eqb place 0 some, le-ltb (length b - at) 2 there)
 
 -- name
 module _ (s index : List ℕ) (k : ℕ) (b : List ℕ) (at : ℕ) where
-  pub name_end : length b ≤ at → Leaf Broken ≡ name_at s index k b at
+  pub name_end : length b ≤ at → Leaf (Err Broken) ≡ name_at s index k b at
   unfolding name_at
   name_end h = simp (le-leb (length b) at h)
 
   module _ {j p place : ℕ} (there : at < length b) (ej : j ≡ k) (ep : p ≡ get_or b at 0) (ei : place ≡ get_or index (production_key j p) 0) where
-    pub name_unknown : place ≡ 0 → Leaf Broken ≡ name_at s index k b at
+    pub name_unknown : place ≡ 0 → Leaf (Err Broken) ≡ name_at s index k b at
     unfolding name_at operands_at
     name_unknown h = cc (lt-leb (length b) at there)
 
@@ -93,36 +90,36 @@ module _ (u : List ℕ) (k i j : ℕ) where
 
 -- argument
 module _ (u : List ℕ) (k : ℕ) (b : List ℕ) (at : ℕ) where
-  pub argument_end : length b ≤ at → Broken ≡ argument_at u k b at
+  pub argument_end : length b ≤ at → Err Broken ≡ argument_at u k b at
   unfolding argument_at
   argument_end h = simp (le-leb (length b) at h)
 
   module _ {i : ℕ} {t : Bool} (there : at < length b) (ei : i ≡ get_or b at 0) (et : t ≡ argument_is u k i 0) where
-    pub argument_good : t ≡ true → End (at + 1) ≡ argument_at u k b at
+    pub argument_good : t ≡ true → Ok (at + 1) ≡ argument_at u k b at
     unfolding argument_at
     argument_good h = cc (lt-leb (length b) at there)
 
-    pub argument_bad : t ≡ false → Broken ≡ argument_at u k b at
+    pub argument_bad : t ≡ false → Err Broken ≡ argument_at u k b at
     unfolding argument_at
     argument_bad h = cc (lt-leb (length b) at there)
 
 -- numbered
 module _ (u : List ℕ) (k : ℕ) (b : List ℕ) (at : ℕ) where
-  pub numbered_end : length b - at < 2 → Broken ≡ numbered_at u k b at
+  pub numbered_end : length b - at < 2 → Err Broken ≡ numbered_at u k b at
   unfolding numbered_at
   numbered_end h = simp (lt-ltb (length b - at) 2 h)
 
-  pub numbered_zero : 2 ≤ length b - at → get_or b (at + 1) 0 ≡ 0 → Broken ≡ numbered_at u k b at
+  pub numbered_zero : 2 ≤ length b - at → get_or b (at + 1) 0 ≡ 0 → Err Broken ≡ numbered_at u k b at
   unfolding numbered_at
   numbered_zero h e = simp (le-ltb (length b - at) 2 h, eq-eqb (get_or b (at + 1) 0) 0 e)
 
   module _ {i j : ℕ} {t : Bool} (there : 2 ≤ length b - at) (ei : i ≡ get_or b at 0) (ej : j ≡ get_or b (at + 1) 0)
       (some : get_or b (at + 1) 0 ≡ 0 → ⊥) (et : t ≡ argument_is u k i j) where
-    pub numbered_good : t ≡ true → End (at + 2) ≡ numbered_at u k b at
+    pub numbered_good : t ≡ true → Ok (at + 2) ≡ numbered_at u k b at
     unfolding numbered_at
     numbered_good h = cc (le-ltb (length b - at) 2 there, ne_eqb (get_or b (at + 1) 0) 0 some)
 
-    pub numbered_bad : t ≡ false → Broken ≡ numbered_at u k b at
+    pub numbered_bad : t ≡ false → Err Broken ≡ numbered_at u k b at
     unfolding numbered_at
     numbered_bad h = cc (le-ltb (length b - at) 2 there, ne_eqb (get_or b (at + 1) 0) 0 some)
 
@@ -138,7 +135,7 @@ module _ (s index : List ℕ) (k : ℕ) (b : List ℕ) (at : ℕ) {j place : ℕ
 
 -- code_leaf
 module _ (s index u : List ℕ) (k : ℕ) (b : List ℕ) (at : ℕ) where
-  pub leaf_end : length b ≤ at → Broken ≡ code_leaf s index u k b at
+  pub leaf_end : length b ≤ at → Err Broken ≡ code_leaf s index u k b at
   unfolding code_leaf
   leaf_end h = simp (le-leb (length b) at h)
 
@@ -156,13 +153,13 @@ module _ (s index u : List ℕ) (k : ℕ) (b : List ℕ) (at : ℕ) where
     unfolding code_leaf
     leaf_numbered h e = cc (lt-leb (length b) at there)
 
-    pub leaf_other : (get_or b at 0 ≡ 3 → ⊥) → (get_or b at 0 ≡ 2 → ⊥) → (get_or b at 0 ≡ 4 → ⊥) → Broken ≡ code_leaf s index u k b at
+    pub leaf_other : (get_or b at 0 ≡ 3 → ⊥) → (get_or b at 0 ≡ 2 → ⊥) → (get_or b at 0 ≡ 4 → ⊥) → Err Broken ≡ code_leaf s index u k b at
     unfolding code_leaf
     leaf_other h i j = cc (lt-leb (length b) at there, ne_eqb (get_or b at 0) 3 h, ne_eqb (get_or b at 0) 2 i, ne_eqb (get_or b at 0) 4 j)
 
 -- code_node
 module _ (s index u : List ℕ) (k : ℕ) (b : List ℕ) (at : ℕ) where
-  pub code_end : length b ≤ at → Leaf Broken ≡ code_node s index u k b at
+  pub code_end : length b ≤ at → Leaf (Err Broken) ≡ code_node s index u k b at
   unfolding code_node
   code_end h = simp (le-leb (length b) at h)
 
@@ -186,7 +183,7 @@ module _ (s index u : List ℕ) (k : ℕ) (b : List ℕ) (at : ℕ) where
       pub code_numbered : {r : Read} → get_or b at 0 ≡ 4 → r ≡ numbered_at u k b (at + 1) → Leaf r ≡ code_node s index u k b at
       code_numbered h e = code_leaf_lem other (leaf_numbered s index u k b at there h e)
 
-      pub code_other : (get_or b at 0 ≡ 3 → ⊥) → (get_or b at 0 ≡ 2 → ⊥) → (get_or b at 0 ≡ 4 → ⊥) → Leaf Broken ≡ code_node s index u k b at
+      pub code_other : (get_or b at 0 ≡ 3 → ⊥) → (get_or b at 0 ≡ 2 → ⊥) → (get_or b at 0 ≡ 4 → ⊥) → Leaf (Err Broken) ≡ code_node s index u k b at
       code_other h i j = code_leaf_lem other (leaf_other s index u k b at there h i j)
 
 -- node_at
@@ -201,7 +198,7 @@ module _ (s index u : List ℕ) (k : ℕ) (b : List ℕ) (at : ℕ) {x : Syntax}
 
 -- The operands, a turn at a time: e - q are left.
 module _ (f : ℕ → ℕ → Read) (s : List ℕ) (e q at : ℕ) where
-  pub operands_done : e ≤ q → operands_from f s (e - q) q at ≡ End at
+  pub operands_done : e ≤ q → operands_from f s (e - q) q at ≡ Ok at
   unfolding operands_from
   operands_done h = let z : e - q ≡ 0 = omega arith in rw z
 
@@ -209,28 +206,13 @@ module _ (f : ℕ → ℕ → Read) (s : List ℕ) (e q at : ℕ) where
     left : e - q ≡ suc (e - (q + 1))
     left = omega arith
 
-    pub operands_next : {x : ℕ} → r ≡ End x → operands_from f s (e - q) q at ≡ operands_from f s (e - (q + 1)) (q + 1) x
+    pub operands_next : {x : ℕ} → r ≡ Ok x → operands_from f s (e - q) q at ≡ operands_from f s (e - (q + 1)) (q + 1) x
     unfolding operands_from
     operands_next y = rw left (cc)
 
-    pub operands_deep : r ≡ Deep → operands_from f s (e - q) q at ≡ Deep
+    pub operands_err : {x : ReadError} → r ≡ Err x → operands_from f s (e - q) q at ≡ Err x
     unfolding operands_from
-    operands_deep y = rw left (cc)
-
-    pub operands_broken : r ≡ Broken → operands_from f s (e - q) q at ≡ Broken
-    unfolding operands_from
-    operands_broken y = rw left (cc)
-
--- An operand that is refused ends the row.
-pub operands_stop : (f : ℕ → ℕ → Read) (s : List ℕ) (e q at : ℕ) {r : Read} → q < e → r ≡ f (get_or s q 0) at → OneOf (1 ∷ 2 ∷ []) (tag_of the_type r)
-    → r ≡ operands_from f s (e - q) q at
-operands_stop f s e q at {r} more er refused = go r er refused
-  where
-    go : (r : Read) → r ≡ f (get_or s q 0) at → OneOf (1 ∷ 2 ∷ []) (tag_of the_type r) → r ≡ operands_from f s (e - q) q at
-    go (End x) y (inl z) = absurd (omega arith)
-    go (End x) y (inr z) = absurd (omega arith)
-    go Deep y z = sym (operands_deep f s e q at more y refl)
-    go Broken y z = sym (operands_broken f s e q at more y refl)
+    operands_err y = rw left (cc)
 
 -- The last operand alone.
 pub operands_last : (f : ℕ → ℕ → Read) (s : List ℕ) (e q at : ℕ) {r : Read} → q + 1 ≡ e → r ≡ f (get_or s q 0) at
@@ -238,10 +220,9 @@ pub operands_last : (f : ℕ → ℕ → Read) (s : List ℕ) (e q at : ℕ) {r 
 unfolding operands_from
 operands_last f s e q at h y = let z : e - q ≡ 1 = omega arith in rw z (y ∙ go (f (get_or s q 0) at))
   where
-    go : (r : Read) → r ≡ (elim r [ End e ↦ End e | Deep ↦ Deep | Broken ↦ Broken ])
-    go (End e) = refl
-    go Deep = refl
-    go Broken = refl
+    go : (r : Read) → r ≡ (elim r [ Ok e ↦ Ok e | Err x ↦ Err x ])
+    go (Ok e) = refl
+    go (Err x) = refl
 
 -- Kinds in a row are no more than the language has bytes.
 pub row_short : (s : List ℕ) (q e : ℕ) → length s ≤ 1024 → KindsIn s q e → e - q ≤ 1024
@@ -252,7 +233,7 @@ row_short s q e h k =
 
 -- past_tree
 module _ (s index : List ℕ) (k : ℕ) (b : List ℕ) (at : ℕ) {j place : ℕ} (ej : j ≡ k) (ei : place ≡ get_or index j 0) where
-  pub past_name : place ≡ 0 → Deep ≡ past_at Tree s index k b at
+  pub past_name : place ≡ 0 → Err Deep ≡ past_at Tree s index k b at
   unfolding past_at
   past_name h = cc (eq-eqb place 0 h)
 
@@ -262,12 +243,12 @@ module _ (s index : List ℕ) (k : ℕ) (b : List ℕ) (at : ℕ) {j place : ℕ
 
 -- past_code
 module _ (s index : List ℕ) (k : ℕ) (b : List ℕ) (at : ℕ) where
-  pub past_end : length b ≤ at → Deep ≡ past_at Code s index k b at
+  pub past_end : length b ≤ at → Err Deep ≡ past_at Code s index k b at
   unfolding past_at
   past_end h = simp (le-leb (length b) at h)
 
   module _ (there : at < length b) where
-    pub past_other : (get_or b at 0 ≡ 2 → ⊥) → Deep ≡ past_at Code s index k b at
+    pub past_other : (get_or b at 0 ≡ 2 → ⊥) → Err Deep ≡ past_at Code s index k b at
     unfolding past_at
     past_other h = cc (lt-leb (length b) at there, ne_eqb (get_or b at 0) 2 h)
 
@@ -332,7 +313,7 @@ module _ (x : Syntax) (s index u b : List ℕ) (n k at : ℕ) where
 -- leaf
 module _ (x : Syntax) (s index u b : List ℕ) (n k at : ℕ) where
   -- An unknown name in a tree, where no token of a class is to be.
-  tree_nothing : get_or index k 0 ≡ 0 → production_place Tree index k b at ≡ 0 → Leaf Broken ≡ tree_node s index k b at
+  tree_nothing : get_or index k 0 ≡ 0 → production_place Tree index k b at ≡ 0 → Leaf (Err Broken) ≡ tree_node s index k b at
   unfolding production_place
   tree_nothing e h =
       by_test (leb (length b) at)
@@ -358,7 +339,7 @@ module _ (x : Syntax) (s index u b : List ℕ) (n k at : ℕ) where
     where
       unknown : at < length b → get_or b at 0 ≡ 1
           → cond (leb (length b) (at + 1)) 0 (cond (eqb (get_or b at 0) 1) (get_or index (production_key k (get_or b (at + 1) 0)) 0) 0) ≡ 0
-          → Leaf Broken ≡ name_at s index k b (at + 1)
+          → Leaf (Err Broken) ≡ name_at s index k b (at + 1)
       unknown there one h =
           by_test (leb (length b) (at + 1))
           (λ t. name_end s index k b (at + 1) (leb-true _ _ t))
@@ -405,7 +386,7 @@ module _ (x : Syntax) (index : List ℕ) (k : ℕ) (b : List ℕ) (at class : �
 
 -- leaf_at
 module _ (s index u : List ℕ) (k : ℕ) (b : List ℕ) (at : ℕ) {x : Syntax} where
-  pub leaf_tree : x ≡ Tree → Broken ≡ leaf_at x s index u k b at
+  pub leaf_tree : x ≡ Tree → Err Broken ≡ leaf_at x s index u k b at
   unfolding leaf_at
   leaf_tree h = cc
 
@@ -435,7 +416,7 @@ pub none_found : (x : Syntax) (index : List ℕ) (k : ℕ) (b : List ℕ) (at : 
 none_found x index k b at {class} z e h = let w : eqb class 0 ≡ true = eq-eqb class 0 z in cc
 
 -- What is known of a result, once its case is known.
-pub end_in : {n e : ℕ} (r : Read) → r ≡ End e → EndsBy n r → e ≤ n
+pub end_in : {n e : ℕ} (r : Read) → r ≡ Ok e → EndsBy n r → e ≤ n
 end_in {n} r y h = rw y at h
 
 pub leaf_in : (s b : List ℕ) (d : Node) (r : Read) → d ≡ Leaf r → NodeIn s b d → EndsBy (length b) r
@@ -502,7 +483,7 @@ named_by Code s index u k b at place none e pos =
 
 -- A production that was found is a level.
 past_named : (x : Syntax) (s index : List ℕ) (k : ℕ) (b : List ℕ) (at place : ℕ) → class_place x index k ≡ 0
-    → place ≡ production_place x index k b at → (place ≡ 0 → ⊥) → Deep ≡ past_at x s index k b at
+    → place ≡ production_place x index k b at → (place ≡ 0 → ⊥) → Err Deep ≡ past_at x s index k b at
 unfolding class_place production_place
 past_named Tree s index k b at place none e pos = past_name s index k b at refl refl none
 past_named Code s index k b at place none e pos =
@@ -530,7 +511,7 @@ module _ (x : Syntax) (s index u : List ℕ) (k : ℕ) (b : List ℕ) (at : ℕ)
       ap (λ (j : ℕ). Operands first last j) (ap (λ (j : ℕ). at + j) d ∙ sym named.next)
       ∙ (name_known s index k b named.name named.inside refl refl named.found pos f l ∙ named.node)
 
-  pub named_past : Deep ≡ past_at x s index k b at
+  pub named_past : Err Deep ≡ past_at x s index k b at
   named_past =
       by_test (eqb class 0)
       (λ t. past_named x s index k b at place (sym ec ∙ eqb-true class 0 t) (ep ∙ ap (λ (u : Bool). cond u (production_place x index k b at) 0) t) pos)

@@ -1,4 +1,6 @@
 -- Reading by position, through the index, is the reading of specs/Syntax.antt.
+use Rattle.std.specs.Prelude.{Err, Ok}
+use Rattle.tree_reader.specs.declared.node.ReadError.TheVariants.{Deep, Broken}
 use Prim.Native.Nat.{ℕ, zero, suc, ◌+◌, ◌*◌, ◌-◌, ◌<◌, ◌≤◌}
 use mathlib.Core.Path.{◌≡◌, refl, sym, ap, ◌∙◌}
 use mathlib.Core.Bool.{true, false}
@@ -23,11 +25,9 @@ use Rattle.tree_reader.specs.Syntax as Meant
 use Rattle.tree_reader.specs.Syntax.{and_then, read_all, read_operands, read_node, read_token, use_of, read_argument, read_numbered, read_use, is_the, read_tree_level, read_code_level, read_level, past_levels, current}
 use Rattle.tree_reader.specs.declared.node.Syntax.{Syntax}
 use Rattle.tree_reader.specs.declared.node.Syntax.TheVariants.{Tree, Code}
-use Rattle.tree_reader.specs.declared.node.Read.{Read}
-use Rattle.tree_reader.specs.declared.node.Read.TheVariants.{End, Deep, Broken}
 use Rattle.tree_reader.proofs.Laws as Laws
 use Rattle.tree_reader.specs.Inner.Index.{Indexed, range_before, arguments_before}
-use Rattle.tree_reader.specs.Inner.Positions.{token_at, operands_at, name_at, uses_length, kind_before, mapped_in, uses_in, argument_is, argument_at, numbered_at, tree_node, code_node, node_at, operands_from, follow, past_at, read_at, KindsIn, rest, deep, broken, rest_at, rest_of, syntax_of}
+use Rattle.tree_reader.specs.Inner.Positions.{token_at, operands_at, name_at, uses_length, kind_before, mapped_in, uses_in, argument_is, argument_at, numbered_at, tree_node, code_node, node_at, operands_from, follow, past_at, read_at, KindsIn, rest, deep, broken, rest_at, rest_of, syntax_of, Read}
 
 -- What was read, by what is left of it.
 pub done_of : {A : Type 0} (g : Meant.Read A) (u : List ℕ) → rest_of g ≡ rest u → (a : A) × (g ≡ Meant.done a u)
@@ -229,7 +229,7 @@ one_slice s q e h k = sym (part_next (λ l. l) s q e (slice q e s) refl h k)
 module _ (s index u b : List ℕ) (l : Language) (z : Indexed index s l) (bytes : (i : ℕ) → get_or b i 0 < 256)
     (f : ℕ → ℕ → Read) (g : ℕ → List ℕ → Meant.Read C.Code)
     (below : (k at : ℕ) → k < 32 → rest_at b (f k at) ≡ rest_of (g k (drop at b))) where
-  code_next : (m q at e : ℕ) → f (get_or s q 0) at ≡ End e → operands_from f s (suc m) q at ≡ operands_from f s m (q + 1) e
+  code_next : (m q at e : ℕ) → f (get_or s q 0) at ≡ Ok e → operands_from f s (suc m) q at ≡ operands_from f s m (q + 1) e
   unfolding operands_from
   code_next m q at e y = cc
 
@@ -241,11 +241,11 @@ module _ (s index u b : List ℕ) (l : Language) (z : Indexed index s l) (bytes 
       → ((e : ℕ) → rest_at b (operands_from f s m (q + 1) e) ≡ rest_of (read_all g ks (drop e b)))
       → rest_at b (operands_from f s (suc m) q at) ≡ rest_of (read_all g (get_or s q 0 ∷ ks) (drop at b))
   unfolding operands_from read_all
-  next (End e) m q ks at y h ih =
+  next (Ok e) m q ks at y h ih =
       let d = done_of (g (get_or s q 0) (drop at b)) (drop e b) (sym h) in
       ap (rest_at b) (code_next m q at e y) ∙ (ih e ∙ sym (meant_next (get_or s q 0) ks (drop at b) (drop e b) d.0 d.1))
-  next Deep m q ks at y h ih = cc (deep_of (g (get_or s q 0) (drop at b)) (sym h))
-  next Broken m q ks at y h ih = cc (broken_of (g (get_or s q 0) (drop at b)) (sym h))
+  next (Err Deep) m q ks at y h ih = cc (deep_of (g (get_or s q 0) (drop at b)) (sym h))
+  next (Err Broken) m q ks at y h ih = cc (broken_of (g (get_or s q 0) (drop at b)) (sym h))
 
   operands_same : (m q e at : ℕ) → e - q ≡ m → KindsIn s q e → rest_at b (operands_from f s m q at) ≡ rest_of (read_all g (slice q e s) (drop at b))
   unfolding operands_from read_all

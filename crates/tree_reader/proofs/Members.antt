@@ -6,14 +6,17 @@ use mathlib.Core.List.{List, [], ◌∷◌}
 use mathlib.Core.Bool.{Bool, true, false, ◌||◌}
 use mathlib.Core.Option.{some}
 use native.Mathlib.Omega.{arith}
-use lib.ListN.{length, get_or}
+use lib.ListN.{length, get_or, take, drop}
+use Rattle.std.specs.List.{list_any}
+use Rattle.format_fields.proofs.Splices.{slice_is}
+use Prim.Native.Nat.{◌-◌}
 use lib.Seq.{slice}
 use lib.Dec.{eqb}
 use borrow.Author.Tests.{eq-eqb, ne_eqb, eqb-true, ltb-true}
 use Rattle.format_fields.specs.Lists.{all, any}
 use Rattle.format_fields.specs.Inner.Places.{field_end, places_from, places}
 use Rattle.format_fields.proofs.Truth.{by_test, false_true}
-use Rattle.format_fields.proofs.Lists.{all_true, any_map, any_stop, any_next, part_done, part_next}
+use Rattle.format_fields.proofs.Lists.{any_is, all_true, any_map, any_stop, any_next}
 use Rattle.format_fields.proofs.Places.{pass_done, pass_next}
 use Rattle.format_language.specs.Language.{Language, mentions, is_in}
 use Rattle.format_language.specs.LanguageFile.{is_kind, entries_of}
@@ -22,19 +25,6 @@ use Rattle.format_language.proofs.Facts.{entry_facts, class_is, production_is}
 use Rattle.format_language.proofs.Holds.{holds_entries}
 use Rattle.format_language.proofs.Ranges.{class_long}
 use Rattle.tree_reader.specs.Inner.Positions.{mentions_at}
-
--- kind_among
-module _ (s : List ℕ) (q e k : ℕ) (x : Bool) (inv : any (λ a. eqb a k) (slice q e s) ≡ x) where
-  pub among_done : e ≤ q → false ≡ x
-  unfolding any
-  among_done h = part_done (any λ a. eqb a k) s q e x inv h
-
-  module _ (fits : e ≤ length s) (here : q < e) where
-    pub among_stop : get_or s q 0 ≡ k → true ≡ x
-    among_stop h = any_stop (λ a. eqb a k) (get_or s q 0) _ (part_next (any λ a. eqb a k) s q e x inv here fits) (eq-eqb _ _ h)
-
-    pub among_next : (get_or s q 0 ≡ k → ⊥) → any (λ a. eqb a k) (slice (q + 1) e s) ≡ x
-    among_next h = any_next (λ a. eqb a k) (get_or s q 0) _ (part_next (any λ a. eqb a k) s q e x inv here fits) (ne_eqb _ _ h)
 
 -- mentions_kind
 module _ (s : List ℕ) (k p : ℕ) where
@@ -48,10 +38,11 @@ module _ (s : List ℕ) (k p : ℕ) where
     unfolding mentions_at entry_at mentions
     mentions_class h = cc (eq-eqb _ _ h, ne_eqb _ _ other)
 
-    pub mentions_production : {e : ℕ} {r : Bool} → (get_or s p 0 ≡ 0x11 → ⊥) → e ≡ field_end s p → r ≡ any (λ a. eqb a k) (slice (p + 5) e s)
+    pub mentions_production : {e : ℕ} {r : Bool} → (get_or s p 0 ≡ 0x11 → ⊥) → e ≡ field_end s p → p + 5 ≤ e → e ≤ length s → r ≡ list_any (λ a. eqb a k) (take (e - (p + 5)) (drop (p + 5) s))
         → r ≡ mentions_at s k p
     unfolding mentions_at entry_at mentions
-    mentions_production h ee er = cc (ne_eqb _ _ h, ne_eqb _ _ other)
+    mentions_production {e} {r} h ee from fits er =
+        let w : r ≡ any (λ a. eqb a k) (slice (p + 5) e s) = er ∙ any_is _ _ ∙ ap (any λ a. eqb a k) (sym (slice_is s (p + 5) e from fits)) in cc (ne_eqb _ _ h, ne_eqb _ _ other)
 
 -- is_in
 module _ (s : List ℕ) (k p : ℕ) (x : Bool) (inv : any (mentions_at s k) (places_from s p) ≡ x) (whole : all (entry_whole s) (places_from s p) ≡ true) where
@@ -63,7 +54,7 @@ module _ (s : List ℕ) (k p : ℕ) (x : Bool) (inv : any (mentions_at s k) (pla
     entries : (entry_whole s p ≡ true) × (all (entry_whole s) (places_from s e) ≡ true)
     entries = all_true (entry_whole s) p (places_from s e) (pass_next (all (entry_whole s)) s p true whole e here ee)
 
-    pub in_fits : (p + 3 < length s) × (e ≡ field_end s p) × (e ≤ length s)
+    pub in_fits : (p + 5 ≤ e) × (e ≡ field_end s p) × (e ≤ length s)
     unfolding field_end
     in_fits =
         ⊎_elim

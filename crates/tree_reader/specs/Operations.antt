@@ -1,7 +1,6 @@
 -- The operation on trees (paper 01, "Operations and their refusals").
 use Rattle.std.specs.Prelude.{ℕ, not, List, [], ◌∷◌}
-use Rattle.outcome.specs.Outcome.{Result, value, refused, refuse_if, ◌>>=◌, checked}
-use Rattle.outcome.specs.declared.Outcome.{Outcome}
+use Rattle.outcome.specs.Outcome.{Result, value, refused, refuse_if, ◌>>=◌, checked, Outcome}
 use Rattle.outcome.specs.declared.Reason.TheVariants.{UnknownRoot, IllegalTree, TooDeep}
 use Rattle.format_language.specs.Language.{Language, is_in}
 use Rattle.format_language.specs.LanguageFile.{language_of}

@@ -1,7 +1,7 @@
 // Where terms of an input end, kept for when it is asked again. Two numbers stand for each: 32 times the position where the term
 // starts plus its kind, and the position where it ends. By where it starts, a term has two places in the table, one behind the
 // other; of the terms that meet there the two longest are kept. No answer rests on what is kept or not.
-ghost use Rattle.std.specs.Prelude.{◌≡◌, ◌⊎◌, ℕ, ◌+◌, ◌*◌, ◌<◌, ◌≤◌, length, set};
+ghost use Rattle.std.specs.Prelude.{IfSome, ◌≡◌, ◌⊎◌, ℕ, ◌+◌, ◌*◌, ◌<◌, ◌≤◌, length, set};
 ghost use Rattle.tree_reader.specs.Inner.Ends.{Kept};
 
 // How many terms the table of a short input keeps, and that of a long one.
@@ -66,34 +66,34 @@ pub fn is_empty(ends: &[u32]) -> bool {
     ends[2 * last_place(ends.len())] == 0
 }
 
-// Where the term of a kind at a position ends, if it is the one at this place; 0 if it is not.
-fn end_at(ends: &[u32], place: usize, kind: usize, at: usize) -> usize
+// Where the term of a kind at a position ends, if it is the one at this place.
+fn end_at(ends: &[u32], place: usize, kind: usize, at: usize) -> Option<usize>
     requires { (kind < 32) × (at ≤ 134217727) × (2 * place + 1 < length ends.now) }
-    ensures { (result ≡ 0) ⊎ Kept ends.now kind at result }
+    ensures { IfSome result (λ end. Kept ends.now kind at end) }
 {
     if to_usize(ends[2 * place]) != at * 32 + kind {
-        return 0;
+        return None;
     }
-    to_usize(ends[2 * place + 1])
+    let end = to_usize(ends[2 * place + 1]);
+    if end == 0 {
+        return None;
+    }
+    Some(end)
 }
 
-// Where the term of a kind at a position ends, where that is kept; 0 where it is not.
-pub fn known_end(ends: &[u32], kind: usize, at: usize) -> usize
+// Where the term of a kind at a position ends, where that is kept.
+pub fn known_end(ends: &[u32], kind: usize, at: usize) -> Option<usize>
     requires { kind < 32 }
-    ensures { (result ≡ 0) ⊎ Kept ends.now kind at result }
+    ensures { IfSome result (λ end. Kept ends.now kind at end) }
 {
     if ends.len() < SHORT_TABLE {
-        return 0;
+        return None;
     }
     if LAST_POSITION < at {
-        return 0;
+        return None;
     }
     let place = first_place(ends.len(), at);
-    let end = end_at(ends, place, kind, at);
-    if end != 0 {
-        return end;
-    }
-    end_at(ends, place + 1, kind, at)
+    end_at(ends, place, kind, at).or_else(|| end_at(ends, place + 1, kind, at))
 }
 
 // How long the term at this place is; 0 where there is none.

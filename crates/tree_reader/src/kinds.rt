@@ -11,24 +11,9 @@ ghost use Rattle.tree_reader.specs.Inner.Positions.{mentions_at};
 use format_fields::walk::field_end;
 use format_language::entries::CLASS;
 
-// The kind stands among the bytes from p up to e.
-fn kind_among(s: &[u8], p: usize, e: usize, kind: u8) -> bool
-    requires { e ≤ length s.now }
-    ensures { result ≡ any (λ a. eqb a kind) (slice p e s.now) }
-{
-    let mut q = p;
-    while q < e {
-        if s[q] == kind {
-            return true;
-        }
-        q += 1;
-    }
-    false
-}
-
 // The entry at p, which ends at e, has the kind as its class, result or argument.
 fn mentions_kind(s: &[u8], p: usize, e: usize, kind: u8) -> bool
-    requires { (p + 3 < length s.now) × (e ≡ field_end s.now p) × (e ≤ length s.now) }
+    requires { (p + 5 ≤ e) × (e ≡ field_end s.now p) × (e ≤ length s.now) }
     ensures { result ≡ mentions_at s.now kind p }
 {
     if s[p + 3] == kind {
@@ -37,7 +22,7 @@ fn mentions_kind(s: &[u8], p: usize, e: usize, kind: u8) -> bool
     if s[p] == CLASS {
         return false;
     }
-    kind_among(s, p + 5, e, kind)
+    s[p + 5..e].contains(&kind)
 }
 
 // The kind is in the language.

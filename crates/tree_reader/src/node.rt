@@ -1,12 +1,13 @@
 // What stands at one position: a leaf, or a production whose operands follow.
 ghost use Rattle.std.specs.Prelude.{◌≡◌, ℕ, ◌+◌, ◌-◌, ◌<◌, ◌≤◌, cond, eqb, length, get_or};
 ghost use Rattle.format_language.specs.Inner.Entries.{IsClass};
-ghost use Rattle.tree_reader.specs.Inner.Positions.{name_length, production_place, token_at, name_at, argument_is, argument_at, numbered_at, tree_node, code_leaf, code_node, leaf_at, past_at, EndsBy, NodeIn};
+ghost use Rattle.tree_reader.specs.Inner.Positions.{refusal_of, name_length, production_place, token_at, name_at, argument_is, argument_at, numbered_at, tree_node, code_leaf, code_node, leaf_at, past_at, EndsBy, NodeIn};
 ghost use Rattle.tree_reader.specs.Inner.Index.{Ready, index_length};
 
 use crate::operands::{KINDS, NAMES, first_operand, last_operand, production_key};
-use format_fields::bytes::{pair_in, to_usize};
+use format_fields::bytes::pair_in;
 use format_language::range::in_range;
+use outcome::Reason;
 
 // The signs of a code: a production's name, a token, an argument, an argument by a number.
 pub const NAME: u8 = 0x01;
@@ -24,23 +25,37 @@ pub const USES: usize = KINDS * NAMES;
 const ARGUMENTS: usize = USES - 1;
 
 // Trees are written without signs, codes with them.
-#[derive(Clone, Copy)]
+#[derive(Clone, Copy, Debug, PartialEq, Eq)]
 pub enum Syntax {
     Tree,
     Code,
 }
 
-// The position after what was read; one level too many; or bytes that are no such code.
-#[derive(Clone, Copy)]
-pub enum Read {
-    End(usize),
+// Why nothing can be read: one level too many, or bytes that are no such code.
+#[derive(Clone, Copy, Debug, PartialEq, Eq)]
+pub enum ReadError {
     Deep,
     Broken,
 }
 
+// An operation refuses a tree of too many levels, and one that is not legal.
+impl From<ReadError> for Reason {
+    ghost from_gives = { λ error reason. reason ≡ refusal_of error };
+
+    fn from(error: ReadError) -> Reason {
+        match error {
+            ReadError::Deep => Reason::TooDeep,
+            ReadError::Broken => Reason::IllegalTree,
+        }
+    }
+}
+
+// The position after what was read.
+pub type Read = Result<usize, ReadError>;
+
 // A leaf that was read; or a node: the kinds of its operands stand in the language from the first number up to the
 // second, the operands from the third on.
-#[derive(Clone, Copy)]
+#[derive(Clone, Copy, Debug, PartialEq, Eq)]
 pub enum Node {
     Leaf(Read),
     Operands(usize, usize, usize),
@@ -51,7 +66,7 @@ pub fn place_at(index: &[u16], i: usize) -> usize
     requires { i < length index.now }
     ensures { result ≡ get_or index.now i 0 }
 {
-    index[i] as usize
+    usize::from(index[i])
 }
 
 // How many bytes a production's name takes, with its sign in a code.
@@ -72,7 +87,10 @@ fn name_place(index: &[u16], kind: u8, bytes: &[u8], at: usize) -> usize
     if bytes.len() <= at {
         return 0;
     }
-    place_at(index, production_key(to_usize(kind), to_usize(bytes[at])))
+    place_at(
+        index,
+        production_key(usize::from(kind), usize::from(bytes[at])),
+    )
 }
 
 // The place of the production of the kind whose name stands at a position; 0 if there is none, or if a token of a class
@@ -111,15 +129,15 @@ pub fn token(language: &[u8], place: usize, bytes: &[u8], at: usize) -> Read
     ensures { (result ≡ token_at language.now place bytes.now at) × EndsBy (length bytes.now) result }
 {
     if place == 0 {
-        return Read::Broken;
+        return Err(ReadError::Broken);
     }
     if bytes.len() - at < 2 {
-        return Read::Broken;
+        return Err(ReadError::Broken);
     }
     if !in_range(language, place - 1, pair_in(bytes, at)) {
-        return Read::Broken;
+        return Err(ReadError::Broken);
     }
-    Read::End(at + 2)
+    Ok(at + 2)
 }
 
 // A production name of the kind, whose operands follow.
@@ -128,11 +146,14 @@ fn name(language: &[u8], index: &[u16], kind: u8, bytes: &[u8], at: usize) -> No
     ensures { (result ≡ name_at language.now index.now kind bytes.now at) × NodeIn language.now bytes.now result }
 {
     if bytes.len() <= at {
-        return Node::Leaf(Read::Broken);
+        return Node::Leaf(Err(ReadError::Broken));
     }
-    let place = place_at(index, production_key(to_usize(kind), to_usize(bytes[at])));
+    let place = place_at(
+        index,
+        production_key(usize::from(kind), usize::from(bytes[at])),
+    );
     if place == 0 {
-        return Node::Leaf(Read::Broken);
+        return Node::Leaf(Err(ReadError::Broken));
     }
     Node::Operands(first_operand(place), last_operand(language, place), at + 1)
 }
@@ -148,11 +169,11 @@ fn argument_is(uses: &[u8], kind: u8, i: usize, number: usize) -> bool
     if uses.len() <= ARGUMENTS + i {
         return false;
     }
-    let place = to_usize(uses[ARGUMENTS + i]) * NAMES + number;
+    let place = usize::from(uses[ARGUMENTS + i]) * NAMES + number;
     if uses.len() <= place {
         return false;
     }
-    to_usize(uses[place]) == to_usize(kind) + 1
+    usize::from(uses[place]) == usize::from(kind) + 1
 }
 
 // The number of an argument of the kind.
@@ -161,12 +182,12 @@ fn argument(uses: &[u8], kind: u8, bytes: &[u8], at: usize) -> Read
     ensures { (result ≡ argument_at uses.now kind bytes.now at) × EndsBy (length bytes.now) result }
 {
     if bytes.len() <= at {
-        return Read::Broken;
+        return Err(ReadError::Broken);
     }
-    if argument_is(uses, kind, to_usize(bytes[at]), 0) {
-        return Read::End(at + 1);
+    if argument_is(uses, kind, usize::from(bytes[at]), 0) {
+        return Ok(at + 1);
     }
-    Read::Broken
+    Err(ReadError::Broken)
 }
 
 // The number of an argument that is of the kind by the number behind it, which is not 0.
@@ -175,15 +196,20 @@ fn numbered(uses: &[u8], kind: u8, bytes: &[u8], at: usize) -> Read
     ensures { (result ≡ numbered_at uses.now kind bytes.now at) × EndsBy (length bytes.now) result }
 {
     if bytes.len() - at < 2 {
-        return Read::Broken;
+        return Err(ReadError::Broken);
     }
     if bytes[at + 1] == 0 {
-        return Read::Broken;
+        return Err(ReadError::Broken);
     }
-    if argument_is(uses, kind, to_usize(bytes[at]), to_usize(bytes[at + 1])) {
-        return Read::End(at + 2);
+    if argument_is(
+        uses,
+        kind,
+        usize::from(bytes[at]),
+        usize::from(bytes[at + 1]),
+    ) {
+        return Ok(at + 2);
     }
-    Read::Broken
+    Err(ReadError::Broken)
 }
 
 // A node of a tree: a class has a token, any other kind a name.
@@ -191,7 +217,7 @@ pub fn tree_node(language: &[u8], index: &[u16], kind: u8, bytes: &[u8], at: usi
     requires { Ready index.now language.now kind bytes.now at }
     ensures { (result ≡ tree_node language.now index.now kind bytes.now at) × NodeIn language.now bytes.now result }
 {
-    let place = place_at(index, to_usize(kind));
+    let place = place_at(index, usize::from(kind));
     if place == 0 {
         return name(language, index, kind, bytes, at);
     }
@@ -212,12 +238,12 @@ fn other_leaf(
 {
     let sign = bytes[at];
     if sign == TOKEN {
-        return token(language, place_at(index, to_usize(kind)), bytes, at + 1);
+        return token(language, place_at(index, usize::from(kind)), bytes, at + 1);
     }
     if sign == NUMBERED_ARGUMENT {
         return numbered(uses, kind, bytes, at + 1);
     }
-    Read::Broken
+    Err(ReadError::Broken)
 }
 
 // A leaf of a code. Most are 03 and an argument.
@@ -226,7 +252,7 @@ fn code_leaf(language: &[u8], index: &[u16], uses: &[u8], kind: u8, bytes: &[u8]
     ensures { (result ≡ code_leaf language.now index.now uses.now kind bytes.now at) × EndsBy (length bytes.now) result }
 {
     if bytes.len() <= at {
-        return Read::Broken;
+        return Err(ReadError::Broken);
     }
     if bytes[at] == ARGUMENT {
         return argument(uses, kind, bytes, at + 1);
@@ -247,7 +273,7 @@ pub fn code_node(
     ensures { (result ≡ code_node language.now index.now uses.now kind bytes.now at) × NodeIn language.now bytes.now result }
 {
     if bytes.len() <= at {
-        return Node::Leaf(Read::Broken);
+        return Node::Leaf(Err(ReadError::Broken));
     }
     if bytes[at] == NAME {
         return name(language, index, kind, bytes, at + 1);
@@ -269,7 +295,7 @@ pub fn leaf_at(
     ensures { (result ≡ leaf_at syntax language.now index.now uses.now kind bytes.now at) × EndsBy (length bytes.now) result }
 {
     match syntax {
-        Syntax::Tree => Read::Broken,
+        Syntax::Tree => Err(ReadError::Broken),
         Syntax::Code => code_leaf(language, index, uses, kind, bytes, at),
     }
 }
@@ -279,9 +305,9 @@ fn past_tree(language: &[u8], index: &[u16], kind: u8, bytes: &[u8], at: usize) 
     requires { Ready index.now language.now kind bytes.now at }
     ensures { (result ≡ past_at Syntax.Tree language.now index.now kind bytes.now at) × EndsBy (length bytes.now) result }
 {
-    let class = place_at(index, to_usize(kind));
+    let class = place_at(index, usize::from(kind));
     if class == 0 {
-        return Read::Deep;
+        return Err(ReadError::Deep);
     }
     token(language, class, bytes, at)
 }
@@ -292,12 +318,12 @@ fn past_code(language: &[u8], index: &[u16], kind: u8, bytes: &[u8], at: usize) 
     ensures { (result ≡ past_at Syntax.Code language.now index.now kind bytes.now at) × EndsBy (length bytes.now) result }
 {
     if bytes.len() <= at {
-        return Read::Deep;
+        return Err(ReadError::Deep);
     }
     if bytes[at] != TOKEN {
-        return Read::Deep;
+        return Err(ReadError::Deep);
     }
-    token(language, place_at(index, to_usize(kind)), bytes, at + 1)
+    token(language, place_at(index, usize::from(kind)), bytes, at + 1)
 }
 
 // What stands at a position past the last level, in either syntax: a token is read, anything else is too deep.

@@ -6,11 +6,10 @@ ghost use Rattle.tree_reader.specs.Inner.Positions.{class_place, production_plac
 ghost use Rattle.tree_reader.specs.Inner.Index.{Sound, Ready, Indexed};
 
 use crate::node::{
-    Node, Read, Syntax, code_node, leaf_at, name_length, past_levels, place_at, production_place,
-    token, tree_node,
+    Node, Read, ReadError, Syntax, code_node, leaf_at, name_length, past_levels, place_at,
+    production_place, token, tree_node,
 };
 use crate::operands::{first_operand, last_operand};
-use format_fields::bytes::to_usize;
 
 // A tree has at most so many levels.
 pub const TREE_LEVELS: usize = 64;
@@ -24,7 +23,7 @@ fn class_place(syntax: Syntax, index: &[u16], kind: u8) -> usize
     ensures { result ≡ class_place syntax index.now kind }
 {
     match syntax {
-        Syntax::Tree => place_at(index, to_usize(kind)),
+        Syntax::Tree => place_at(index, usize::from(kind)),
         Syntax::Code => 0,
     }
 }
@@ -83,15 +82,11 @@ fn operands(
         let place = production_place(syntax, index, class, kind, bytes, to);
         q += 1;
         if place == 0 {
-            let read = leaf(syntax, language, index, uses, class, kind, bytes, to, left);
-            let Read::End(e) = read else {
-                return read;
-            };
-            to = e;
+            to = leaf(syntax, language, index, uses, class, kind, bytes, to, left)?;
             continue;
         }
         if left == 0 {
-            return Read::Deep;
+            return Err(ReadError::Deep);
         }
         let first = first_operand(place);
         let last = last_operand(language, place);
@@ -106,13 +101,9 @@ fn operands(
         if last <= first {
             continue;
         }
-        let read = row(syntax, language, index, uses, first, last, bytes, to, below);
-        let Read::End(e) = read else {
-            return read;
-        };
-        to = e;
+        to = row(syntax, language, index, uses, first, last, bytes, to, below)?;
     }
-    Read::End(to)
+    Ok(to)
 }
 
 // The same. A row of one token, as a row or a rest of so many minutes has it, is read without a call.

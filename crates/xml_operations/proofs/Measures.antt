@@ -1,14 +1,16 @@
 -- A law for each return and loop turn of the functions of measure.rt.
 use Prim.Native.Nat.{ℕ, ◌+◌, ◌*◌, ◌-◌, ◌<◌, ◌≤◌}
 use mathlib.Core.Path.{◌≡◌, refl, sym, ap, ◌∙◌}
-use mathlib.Core.Bool.{Bool, true, false, cond}
+use mathlib.Core.Bool.{cond}
 use mathlib.Core.List.{List, [], ◌++◌}
 use mathlib.Core.Option.{some}
 use native.Mathlib.Omega.{arith}
+use Rattle.std.specs.Prelude.{Ok, Err, ◌⊎◌}
+use Rattle.std.proofs.Common.{inl, inr, min}
 use lib.ListN.{length, get_or, drop, length-append, length-drop}
 use lib.Seq.{slice}
-use lib.Dec.{leb, eqb}
-use borrow.Author.Tests.{leb-true, leb-false}
+use lib.Dec.{leb, ltb, eqb}
+use borrow.Author.Tests.{leb-true, leb-false, ltb-true, ltb-false}
 use Rattle.format_fields.specs.Fields.{pair_at}
 use Rattle.format_fields.proofs.Truth.{by_test}
 use Rattle.format_language.specs.Language.{Language, Range, in_range}
@@ -21,49 +23,52 @@ use Rattle.tree_reader.specs.declared.node.Syntax.TheVariants.{Tree}
 use Rattle.check_operations.proofs.Reading.{class_known, class_none, at_known, at_reads, two, read_class, read_past, token_cut, level_read, none_read}
 use Rattle.format_fields.specs.Decimal.{decimal}
 use Rattle.xml_text.specs.Text.{node_tag, token_tag, open_node, close_node, open_token, close_token, kinds_of, export, export_all}
-use Rattle.xml_operations.specs.declared.measure.Measured.{Measured}
-use Rattle.xml_operations.specs.declared.measure.Measured.TheVariants.{End, Deep, Broken}
-use Rattle.xml_operations.specs.Inner.Measuring.{most, Sum, Within, Reaches, Measures, MeasuresTree}
+use Rattle.tree_reader.specs.declared.node.ReadError.{ReadError}
+use Rattle.tree_reader.specs.declared.node.ReadError.TheVariants.{Deep, Broken}
+use Rattle.tree_reader.specs.Inner.Positions as P
+use Rattle.tree_reader.proofs.Laws as Laws
+use Rattle.xml_operations.specs.declared.measure.Ends.{Ends}
+use Rattle.xml_operations.specs.Inner.Measuring.{Measured, most, Sum, Within, Reaches, Measures, MeasuresTree}
 use Rattle.xml_operations.proofs.Puts.{node_length, token_length}
 
 -- Answers.
-not_end : {e m : ℕ} {A : Type 0} → Deep ≡ End e m → A
-not_end h = let z : ◌≡◌ {A = ℕ} 0 1 = cc in absurd (omega arith)
+not_end : {e : Ends} {A : Type 0} → ◌≡◌ {A = Measured} (Err Deep) (Ok e) → A
+not_end h = absurd (cc)
 
-broken_end : {e m : ℕ} {A : Type 0} → Broken ≡ End e m → A
-broken_end h = let z : ◌≡◌ {A = ℕ} 0 1 = cc in absurd (omega arith)
+broken_end : {e : Ends} {A : Type 0} → ◌≡◌ {A = Measured} (Err Broken) (Ok e) → A
+broken_end h = absurd (cc)
 
-deep_broken : {A : Type 0} → Deep ≡ Broken → A
-deep_broken h = let z : ◌≡◌ {A = ℕ} 0 1 = cc in absurd (omega arith)
+deep_broken : {A : Type 0} → ◌≡◌ {A = Measured} (Err Deep) (Err Broken) → A
+deep_broken h = absurd (cc)
 
-end_same : {e m d k : ℕ} → End e m ≡ End d k → (e ≡ d) × (m ≡ k)
-end_same h = (cc, cc)
+end_same : {e d : Ends} → ◌≡◌ {A = Measured} (Ok e) (Ok d) → e ≡ d
+end_same h = cc
 
-pub within_deep : (b : List ℕ) → Within b Deep
-within_deep b e m h = not_end h
+pub within_deep : (b : List ℕ) → Within b (Err Deep)
+within_deep b e h = not_end h
 
-pub within_broken : (b : List ℕ) → Within b Broken
-within_broken b e m h = broken_end h
+pub within_broken : (b : List ℕ) → Within b (Err Broken)
+within_broken b e h = broken_end h
 
-pub within_end : (b : List ℕ) (e m : ℕ) → e ≤ length b → Within b (End e m)
-within_end b e m h d k q = let w = end_same q in omega (arith, w.0)
+pub within_end : (b : List ℕ) (e : Ends) → e.tree ≤ length b → Within b (Ok e)
+within_end b e h d q = rw (← end_same q) h
 
-reaches_broken : (b : List ℕ) (at : ℕ) → Reaches b at Broken
-reaches_broken b at e m h = broken_end h
+reaches_broken : (b : List ℕ) (at : ℕ) → Reaches b at (Err Broken)
+reaches_broken b at e h = broken_end h
 
-reaches_end : (b : List ℕ) (at m : ℕ) → 2 ≤ length b - at → Reaches b at (End (at + 2) m)
-reaches_end b at m h d k q = let w = end_same q in (omega (arith, w.0), omega (arith, w.0))
+reaches_end : (b : List ℕ) (at : ℕ) (e : Ends) → e.tree ≡ at + 2 → 2 ≤ length b - at → Reaches b at (Ok e)
+reaches_end b at e i h d q = rw (← end_same q) (omega arith, omega arith)
 
 module _ {A : Type 0} {text : A → List ℕ} {p : Read A} {b : List ℕ} {n : ℕ} where
-  pub measures_deep : p ≡ deep → Measures text p b n Deep
-  measures_deep h = record { found = λ e m q. not_end q; deep = λ q. h; broken = λ q. deep_broken q }
+  pub measures_deep : p ≡ deep → Measures text p b n (Err Deep)
+  measures_deep h = record { found = λ e q. not_end q; deep = λ q. h; broken = λ q. deep_broken q }
 
-  pub measures_broken : p ≡ broken → Measures text p b n Broken
-  measures_broken h = record { found = λ e m q. broken_end q; deep = λ q. deep_broken (sym q); broken = λ q. h }
+  pub measures_broken : p ≡ broken → Measures text p b n (Err Broken)
+  measures_broken h = record { found = λ e q. broken_end q; deep = λ q. deep_broken (sym q); broken = λ q. h }
 
-  pub measures_end : {e m : ℕ} (a : A) → p ≡ done a (drop e b) → Sum n (length (text a)) m → Measures text p b n (End e m)
-  measures_end {e} {m} a h s = record {
-    found = λ d k q. let w = end_same q in rw (← w.0, ← w.1) (a, h, s);
+  pub measures_end : {e : Ends} (a : A) → p ≡ done a (drop e.tree b) → Sum n (length (text a)) e.text → Measures text p b n (Ok e)
+  measures_end {e} a h s = record {
+    found = λ d q. rw (← end_same q) (a, h, s);
     deep = λ q. not_end (sym q);
     broken = λ q. broken_end (sym q);
   }
@@ -77,6 +82,10 @@ sum_is = record { is = λ i. refl; long = λ i. i }
 
 pub sum_zero : {n : ℕ} → Sum n 0 n
 sum_zero = record { is = λ i. omega arith; long = λ i. omega arith }
+
+-- A sum that stops at the largest number.
+pub sum_top : {n v m : ℕ} → m ≡ min (n + v) 18446744073709551615 → Sum n v m
+sum_top e = record { is = λ i. omega arith; long = λ i. omega arith }
 
 pub sum_same : {n v u m : ℕ} → v ≡ u → Sum n v m → Sum n u m
 sum_same e w = rw (← e) w
@@ -119,41 +128,72 @@ row_sized l levels kinds q e u = sized_of (λ t. length (export_all l (slice q e
 abbrev pub MeasuresToken : ℕ → Range → List ℕ → ℕ → ℕ → Measured → Type 0
 MeasuresToken k c b at n r = Reaches b at r × ((l : Language) → Measures (export l k) (read_token (some c) (drop at b)) b n r)
 
-module _ (k : ℕ) (c : Range) (b : List ℕ) (at n : ℕ) where
-  pub token_short : length b - at < 2 → MeasuresToken k c b at n Broken
-  token_short h = (reaches_broken b at, λ l. measures_broken (token_cut c (drop at b) (omega (arith, length-drop at b))))
+err_not : {e : ReadError} {d : ℕ} {A : Type 0} → ◌≡◌ {A = P.Read} (Ok d) (Err e) → A
+err_not h = absurd (cc)
 
-  module _ (there : 2 ≤ length b - at) {v : ℕ} (ev : v ≡ pair_at b at) {x : Bool} (ex : x ≡ in_range c v) where
-    token_value : v ≡ get_or b at 0 * 256 + get_or b (at + 1) 0
-    unfolding pair_at
-    token_value = ev
+same_err : (e d : ReadError) → ◌≡◌ {A = P.Read} (Err e) (Err d) → e ≡ d
+same_err e d h = cc
 
-    pub token_out : x ≡ false → MeasuresToken k c b at n Broken
-    unfolding read_token
-    token_out h =
-        (reaches_broken b at, λ l. measures_broken (let w = two b at there in let y = token_value in let i : in_range c v ≡ false = sym ex ∙ h in cc))
+same_ok : (e d : ℕ) → ◌≡◌ {A = P.Read} (Ok e) (Ok d) → e ≡ d
+same_ok e d h = cc
 
-    pub token_end : {j a d m : ℕ} → x ≡ true → j ≡ k → a ≡ length (decimal j) → d ≡ length (decimal v) → Sum n (7 + 2 * a + d) m
-        → MeasuresToken k c b at n (End (at + 2) m)
-    unfolding read_token export
-    token_end {j} {a} {d} {m} h ej ea ed s =
-        let w = token_length k v in
+module _ (k : ℕ) (s : List ℕ) (place : ℕ) (b : List ℕ) (at n : ℕ) (some_class : place ≡ 0 → ⊥) {r : P.Read} (er : r ≡ P.token_at s place b at) where
+  abbrev c : Range
+  c = class_range s (place - 1)
+
+  told : ((r ≡ Err Broken) × (read_token (some c) (drop at b) ≡ broken))
+      ⊎ ((r ≡ Ok (at + 2)) × (2 ≤ length b - at) × (read_token (some c) (drop at b) ≡ done (token (pair_at b at)) (drop (at + 2) b)))
+  unfolding read_token pair_at
+  told =
+      by_test (ltb (length b - at) 2)
+      (λ t.
+      let h : length b - at < 2 = ltb-true _ _ t in
+      inl (er ∙ sym (Laws.token_short s place b at some_class h), token_cut c (drop at b) (omega (arith, length-drop at b))))
+      (λ t.
+      let h : 2 ≤ length b - at = ltb-false _ _ t in
+      let w = two b at h in
+      by_test (in_range c (pair_at b at))
+      (λ u. inr (er ∙ sym (Laws.token_good s place b at some_class h refl refl u), h, cc))
+      (λ u. inl (er ∙ sym (Laws.token_out s place b at some_class h refl refl u), cc)))
+
+  pub token_err : {e : ReadError} → r ≡ Err e → MeasuresToken k c b at n (Err e)
+  token_err {e} h =
+      elim told [
+        | inl w ↦ let z : Broken ≡ e = same_err Broken e (sym w.0 ∙ h) in rw (← z) (reaches_broken b at, λ l. measures_broken w.1)
+        | inr w ↦ absurd (err_not (sym w.0 ∙ h))
+      ]
+
+  module _ {e : ℕ} (h : r ≡ Ok e) where
+    pub token_there : 2 ≤ length b - at
+    token_there = elim told [ inl w ↦ absurd (err_not (sym h ∙ w.0)) | inr w ↦ w.1 ]
+
+    pub token_end : {j a v d m : ℕ} → j ≡ k → a ≡ length (decimal j) → v ≡ pair_at b at → d ≡ length (decimal v) → Sum n (7 + 2 * a + d) m
+        → MeasuresToken k c b at n (Ok (record { tree = e; text = m }))
+    unfolding export
+    token_end {j} {a} {v} {d} {m} ej ea ev ed z =
+        let w = token_length k (pair_at b at) in
         let i : length (decimal j) ≡ length (decimal k) = ap (λ (i : ℕ). length (decimal i)) ej in
-        let z : 7 + 2 * a + d ≡ length (token_tag open_token k ++ (decimal v ++ token_tag close_token k)) = omega arith in (
-          reaches_end b at m (omega arith),
-          λ l. measures_end (token v)
-              (let w = two b at there in let y = token_value in let i : in_range c v ≡ true = sym ex ∙ h in cc) (sum_same z s),
-        )
+        let f : length (decimal v) ≡ length (decimal (pair_at b at)) = ap (λ (i : ℕ). length (decimal i)) ev in
+        let y : 7 + 2 * a + d ≡ length (token_tag open_token k ++ (decimal (pair_at b at) ++ token_tag close_token k)) = omega arith in
+        elim told [
+          | inl w ↦ absurd (err_not (sym h ∙ w.0))
+          | inr w ↦
+              let g : e ≡ at + 2 = same_ok e (at + 2) (sym h ∙ w.0) in (
+                reaches_end b at (record { tree = e; text = m }) g w.1,
+                λ l. measures_end (token (pair_at b at)) (w.2 ∙ ap (λ (i : ℕ). done (token (pair_at b at)) (drop i b)) (sym g)) (sum_same y z),
+              )
+        ]
 
 -- plus_tags
-pub tags_sum : {n k p i j a d m : ℕ} → i ≡ k → j ≡ p → a ≡ length (decimal i) → d ≡ length (decimal j) → Sum n (9 + 2 * (a + d)) m
+pub tags_sum : {n k p i j a d m : ℕ} → i ≡ k → j ≡ p → a ≡ length (decimal i) → d ≡ length (decimal j) → m ≡ min (n + (9 + 2 * (a + d))) 18446744073709551615
     → Sum n (length (node_tag open_node k p) + length (node_tag close_node k p)) m
 tags_sum {n} {k} {p} {i} {j} {a} {d} {m} ei ej ea ed s =
     let x = node_length open_node k p in
     let y = node_length close_node k p in
     let u : length (decimal i) ≡ length (decimal k) = ap (λ (i : ℕ). length (decimal i)) ei in
     let v : length (decimal j) ≡ length (decimal p) = ap (λ (i : ℕ). length (decimal i)) ej in
-    sum_same (omega arith) s
+    let z : 9 + 2 * (a + d) ≡ length (node_tag open_node k p) + length (node_tag close_node k p) = omega arith in
+    sum_same z (sum_top s)
 
 -- measure_at
 abbrev pub MeasuresAt : List ℕ → List ℕ → ℕ → List ℕ → ℕ → ℕ → ℕ → Measured → Type 0
@@ -165,15 +205,15 @@ module _ (s index b : List ℕ) (k at levels n : ℕ) (kind : k < 32) (bytes : (
 
   pub at_class : (r : Measured) → (class ≡ 0 → ⊥) → MeasuresToken k (class_range s (class - 1)) b at n r → MeasuresAt s index k b at levels n r
   at_class r h w =
-      ((λ e m q. (w.0 e m q).1), λ l z. measures_same (sym (read_class l k (drop at b) levels (class_range s (class - 1)) (class_known s index l z k kind class class_is h))) (w.1 l))
+      ((λ e q. (w.0 e q).1), λ l z. measures_same (sym (read_class l k (drop at b) levels (class_range s (class - 1)) (class_known s index l z k kind class class_is h))) (w.1 l))
 
   module _ (no : class ≡ 0) where
-    pub at_deep : levels ≡ 0 → MeasuresAt s index k b at levels n Deep
+    pub at_deep : levels ≡ 0 → MeasuresAt s index k b at levels n (Err Deep)
     at_deep h =
         (within_deep b, λ l z. measures_deep (ap (λ (i : ℕ). read tree l [] i k (drop at b)) h ∙ read_past l k (drop at b) (class_none s index l z k kind class class_is no)))
 
     module _ (some_level : levels ≡ 0 → ⊥) {place : ℕ} (ep : place ≡ cond (eqb class 0) (production_place Tree index k b at) 0) where
-      pub at_broken : place ≡ 0 → MeasuresAt s index k b at levels n Broken
+      pub at_broken : place ≡ 0 → MeasuresAt s index k b at levels n (Err Broken)
       at_broken p = (within_broken b, λ l z. measures_broken (level_read s index l z k kind b at class_is no levels some_level ∙ none_read s index l z k kind b at class_is no bytes ep p (levels - 1)))
 
       module _ (pos : place ≡ 0 → ⊥) where

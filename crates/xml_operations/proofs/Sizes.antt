@@ -4,6 +4,7 @@ use mathlib.Core.Path.{◌≡◌, refl, sym, ap, ◌∙◌}
 use mathlib.Core.Bool.{cond}
 use mathlib.Core.List.{List, [], ◌∷◌}
 use native.Mathlib.Omega.{arith}
+use Rattle.std.specs.Prelude.{Ok, Err}
 use lib.ListN.{length, get_or, drop, set, length-set, length-append}
 use lib.Seq.{slice, get_or-set_same, get_or-set_other}
 use lib.Dec.{eqb}
@@ -21,11 +22,13 @@ use Rattle.tree_reader.specs.Inner.Positions.{production_place, KindsIn}
 use Rattle.tree_reader.specs.declared.node.Syntax.TheVariants.{Tree}
 use Rattle.xml_text.specs.Text.{node_tag, open_node, close_node, export, export_all}
 use Rattle.xml_text.specs.Inner.Importing.{row_kinds}
-use Rattle.xml_text.proofs.Rows.{below_root, row_long, row_in}
+use Rattle.xml_text.proofs.Rows.{below_root, row_in}
 use Rattle.xml_text.proofs.Unwinding.{unwind_by, unwind_stop, unwind_none, unwind_one, unwind_same}
-use Rattle.xml_operations.specs.declared.measure.Measured.{Measured}
-use Rattle.xml_operations.specs.declared.measure.Measured.TheVariants.{End, Deep, Broken}
-use Rattle.xml_operations.specs.Inner.Measuring.{Sum, Within, Measures, MeasuresTree, MeasuresTrees}
+use Rattle.tree_reader.specs.declared.node.ReadError.{ReadError}
+use Rattle.tree_reader.specs.declared.node.ReadError.TheVariants.{Deep, Broken}
+use Rattle.tree_reader.specs.declared.operands.Operands.{Operands}
+use Rattle.xml_operations.specs.declared.measure.Ends.{Ends}
+use Rattle.xml_operations.specs.Inner.Measuring.{Measured, Sum, Within, Measures, MeasuresTree, MeasuresTrees}
 use Rattle.xml_operations.proofs.Measures.{Sized, got, too_deep_lem, no_tree, sized_of, add, row_sized, MeasuresToken, within_deep, within_broken, within_end, measures_deep, measures_broken, measures_end, sum_zero, sum_same, sum_then, at_class, at_deep, at_broken, at_opened}
 use Rattle.check_operations.proofs.Reading.{at_name, at_place, at_kinds}
 
@@ -99,42 +102,45 @@ unwind_add f (suc d) n x = ap (unwind f d) (add_then n x (f d)) ∙ unwind_add f
 unfoldable pub row_at : Language → ℕ → List ℕ → ℕ → ℕ → ℕ → List ℕ → Sized
 row_at l k s d q e u = row_sized l (tree_levels - d) (row_kinds k s d) q e u
 
-abbrev pub waits_in : Language → ℕ → List ℕ → List ℕ → List ℕ → ℕ → List ℕ → Sized
-waits_in l k s firsts lasts d = row_at l k s d (get_or firsts d 0) (get_or lasts d 0)
+-- The row that waits at a depth; there is none where the table ends.
+abbrev pub waiting_at : List Operands → ℕ → Operands
+waiting_at rows d = get_or rows d (record { first = 0; last = 0 })
+
+abbrev pub waits_in : Language → ℕ → List ℕ → List Operands → ℕ → List ℕ → Sized
+waits_in l k s rows d = row_at l k s d (waiting_at rows d).first (waiting_at rows d).last
 
 -- The length so far is that of some texts, and these with what is left to read are the whole.
-pub record Counted (l : Language) (s : List ℕ) (k : ℕ) (b firsts lasts : List ℕ) (d q e to n : ℕ) : Type 0 where
+pub record Counted (l : Language) (s : List ℕ) (k : ℕ) (b : List ℕ) (rows : List Operands) (d q e : ℕ) (ends : Ends) : Type 0 where
   pub size : ℕ
-  pub count : Sum 0 size n
-  pub comes : add size (unwind (waits_in l k s firsts lasts) d (row_at l k s d q e (drop to b))) ≡ row_sized l tree_levels (k ∷ []) 0 1 b
+  pub count : Sum 0 size ends.text
+  pub comes : add size (unwind (waits_in l k s rows) d (row_at l k s d q e (drop ends.tree b))) ≡ row_sized l tree_levels (k ∷ []) 0 1 b
 
 -- The row from q up to e is open at depth d, and the rows above it wait.
-pub record Open (s index : List ℕ) (k : ℕ) (b firsts lasts : List ℕ) (d q e to n : ℕ) : Type 0 where
-  pub inside : to ≤ length b
+pub record Open (s index : List ℕ) (k : ℕ) (b : List ℕ) (rows : List Operands) (d q e : ℕ) (ends : Ends) : Type 0 where
+  pub inside : ends.tree ≤ length b
   pub shallow : d ≤ tree_levels
   pub kinds : KindsIn (row_kinds k s d) q e
-  pub waiting : (j : ℕ) → j < d → (get_or firsts j 0 ≤ 1024) × (get_or lasts j 0 ≤ 1024) × KindsIn (row_kinds k s j) (get_or firsts j 0) (get_or lasts j 0)
-  pub first_long : length firsts ≡ 64
-  pub last_long : length lasts ≡ 64
-  pub counted : (l : Language) → Indexed index s l → Counted l s k b firsts lasts d q e to n
+  pub waiting : (j : ℕ) → j < d → KindsIn (row_kinds k s j) (waiting_at rows j).first (waiting_at rows j).last
+  pub long : length rows ≡ 64
+  pub counted : (l : Language) → Indexed index s l → Counted l s k b rows d q e ends
 
 -- An answer, by what is left and how long it is.
-sized_end : {A : Type 0} (text : A → List ℕ) (p : Read A) (b : List ℕ) (e v m : ℕ) → got (drop e b) v ≡ sized_of (λ a. length (text a)) p → Sum 0 v m → Measures text p b 0 (End e m)
-sized_end text (done a r) b e v m h s =
-    let z : r ≡ drop e b = cc in
+sized_end : {A : Type 0} (text : A → List ℕ) (p : Read A) (b : List ℕ) (e : Ends) (v : ℕ) → got (drop e.tree b) v ≡ sized_of (λ a. length (text a)) p → Sum 0 v e.text → Measures text p b 0 (Ok e)
+sized_end text (done a r) b e v h s =
+    let z : r ≡ drop e.tree b = cc in
     let y : v ≡ length (text a) = cc in
     measures_end a (ap (done a) z) (sum_same y s)
-sized_end text deep b e v m h s = let z : ◌≡◌ {A = ℕ} 0 1 = cc in absurd (omega arith)
-sized_end text broken b e v m h s = let z : ◌≡◌ {A = ℕ} 0 1 = cc in absurd (omega arith)
+sized_end text deep b e v h s = absurd (cc)
+sized_end text broken b e v h s = absurd (cc)
 
-sized_deep : {A : Type 0} (text : A → List ℕ) (p : Read A) (b : List ℕ) → too_deep_lem ≡ sized_of (λ a. length (text a)) p → Measures text p b 0 Deep
-sized_deep text (done a r) b h = let z : ◌≡◌ {A = ℕ} 0 1 = cc in absurd (omega arith)
+sized_deep : {A : Type 0} (text : A → List ℕ) (p : Read A) (b : List ℕ) → too_deep_lem ≡ sized_of (λ a. length (text a)) p → Measures text p b 0 (Err Deep)
+sized_deep text (done a r) b h = absurd (cc)
 sized_deep text deep b h = measures_deep refl
-sized_deep text broken b h = let z : ◌≡◌ {A = ℕ} 0 1 = cc in absurd (omega arith)
+sized_deep text broken b h = absurd (cc)
 
-sized_broken : {A : Type 0} (text : A → List ℕ) (p : Read A) (b : List ℕ) → no_tree ≡ sized_of (λ a. length (text a)) p → Measures text p b 0 Broken
-sized_broken text (done a r) b h = let z : ◌≡◌ {A = ℕ} 0 1 = cc in absurd (omega arith)
-sized_broken text deep b h = let z : ◌≡◌ {A = ℕ} 0 1 = cc in absurd (omega arith)
+sized_broken : {A : Type 0} (text : A → List ℕ) (p : Read A) (b : List ℕ) → no_tree ≡ sized_of (λ a. length (text a)) p → Measures text p b 0 (Err Broken)
+sized_broken text (done a r) b h = absurd (cc)
+sized_broken text deep b h = absurd (cc)
 sized_broken text broken b h = measures_broken refl
 
 module _ (s index : List ℕ) (k : ℕ) (b : List ℕ) where
@@ -142,65 +148,60 @@ module _ (s index : List ℕ) (k : ℕ) (b : List ℕ) where
   abbrev Answers : Measured → Type 0
   Answers r = Within b r × MeasuresTrees (k ∷ []) s index 0 1 b 0 tree_levels 0 r
 
-  pub open_start : (firsts lasts : List ℕ) → k < 32 → length firsts ≡ 64 → length lasts ≡ 64 → Open s index k b firsts lasts 0 0 1 0 0
+  pub open_start : (rows : List Operands) → k < 32 → length rows ≡ 64 → Open s index k b rows 0 0 1 (record { tree = 0; text = 0 })
   unfolding row_at
-  open_start firsts lasts kind hf hl =
+  open_start rows kind h =
       record {
         inside = omega arith;
         shallow = omega arith;
         kinds = λ x i j. let z : x ≡ 0 = omega arith in rw z (omega arith, kind);
         waiting = λ j h. absurd (omega arith);
-        first_long = hf;
-        last_long = hl;
+        long = h;
         counted = λ l z. record {
           size = 0;
           count = sum_zero;
-          comes = add_none (unwind (waits_in l k s firsts lasts) 0 (row_sized l tree_levels (k ∷ []) 0 1 b)) ∙ unwind_none then_sized (waits_in l k s firsts lasts) (row_sized l tree_levels (k ∷ []) 0 1 b);
+          comes = add_none (unwind (waits_in l k s rows) 0 (row_sized l tree_levels (k ∷ []) 0 1 b)) ∙ unwind_none then_sized (waits_in l k s rows) (row_sized l tree_levels (k ∷ []) 0 1 b);
         };
       }
 
-  module _ {firsts lasts : List ℕ} {d q e to n : ℕ} (o : Open s index k b firsts lasts d q e to n) where
+  module _ {rows : List Operands} {d q e : ℕ} {ends : Ends} (o : Open s index k b rows d q e ends) where
     abbrev left : Language → Sized → Sized
-    left l x = unwind (waits_in l k s firsts lasts) d x
+    left l x = unwind (waits_in l k s rows) d x
 
-    ended : (l : Language) (z : Indexed index s l) → e ≤ q → add (o.counted l z).size (left l (got (drop to b) 0)) ≡ row_sized l tree_levels (k ∷ []) 0 1 b
+    ended : (l : Language) (z : Indexed index s l) → e ≤ q → add (o.counted l z).size (left l (got (drop ends.tree b) 0)) ≡ row_sized l tree_levels (k ∷ []) 0 1 b
     unfolding row_at
-    ended l z h = ap (λ (x : Sized). add (o.counted l z).size (left l x)) (sym (row_done l (tree_levels - d) (row_kinds k s d) q e (drop to b) h)) ∙ (o.counted l z).comes
+    ended l z h = ap (λ (x : Sized). add (o.counted l z).size (left l x)) (sym (row_done l (tree_levels - d) (row_kinds k s d) q e (drop ends.tree b) h)) ∙ (o.counted l z).comes
 
-    pub open_done : e ≤ q → d ≡ 0 → Answers (End to n)
+    pub open_done : e ≤ q → d ≡ 0 → Answers (Ok ends)
     open_done h y = (
-      within_end b to n o.inside,
+      within_end b ends o.inside,
       λ l z.
           let g = o.counted l z in
           let v : g.size + 0 ≡ g.size = omega arith in
-          sized_end (export_all l (k ∷ [])) (read_all (read tree l [] tree_levels) (k ∷ []) b) b to g.size n
-          (ap (got (drop to b)) (sym v)
-          ∙ (ap (add g.size) (sym (ap (λ (j : ℕ). unwind (waits_in l k s firsts lasts) j (got (drop to b) 0)) y ∙ unwind_none then_sized (waits_in l k s firsts lasts) (got (drop to b) 0)))
+          sized_end (export_all l (k ∷ [])) (read_all (read tree l [] tree_levels) (k ∷ []) b) b ends g.size
+          (ap (got (drop ends.tree b)) (sym v)
+          ∙ (ap (add g.size) (sym (ap (λ (j : ℕ). unwind (waits_in l k s rows) j (got (drop ends.tree b) 0)) y ∙ unwind_none then_sized (waits_in l k s rows) (got (drop ends.tree b) 0)))
           ∙ ended l z h)) g.count,
     )
 
     -- The row has ended, and the one above it goes on.
     module _ (done-row : e ≤ q) (some-row : d ≡ 0 → ⊥) {c : ℕ} (ec : c ≡ d - 1) where
-      pub open_above : (get_or firsts c 0 ≤ 1024) × (get_or lasts c 0 ≤ 1024)
-      open_above = let w = o.waiting c (omega arith) in (w.0, w.1)
-
-      pub open_back : Open s index k b firsts lasts c (get_or firsts c 0) (get_or lasts c 0) to n
+      pub open_back : Open s index k b rows c (waiting_at rows c).first (waiting_at rows c).last ends
       open_back =
           record {
             inside = o.inside;
             shallow = omega (arith, o.shallow);
-            kinds = (o.waiting c (omega arith)).2;
+            kinds = o.waiting c (omega arith);
             waiting = λ j i. o.waiting j (omega arith);
-            first_long = o.first_long;
-            last_long = o.last_long;
+            long = o.long;
             counted = λ l z.
                 let y : suc c ≡ d = omega arith in
-                let f = waits_in l k s firsts lasts in
+                let f = waits_in l k s rows in
                 record {
                   size = (o.counted l z).size;
                   count = (o.counted l z).count;
                   comes = ap (add (o.counted l z).size)
-                      (ap (unwind f c) (sym (add_none (f c (drop to b)))) ∙ (sym (unwind_one then_sized f c (got (drop to b) 0)) ∙ ap (λ (j : ℕ). unwind f j (got (drop to b) 0)) y))
+                      (ap (unwind f c) (sym (add_none (f c (drop ends.tree b)))) ∙ (sym (unwind_one then_sized f c (got (drop ends.tree b) 0)) ∙ ap (λ (j : ℕ). unwind f j (got (drop ends.tree b) 0)) y))
                       ∙ ended l z done-row;
                 };
           }
@@ -209,9 +210,6 @@ module _ (s index : List ℕ) (k : ℕ) (b : List ℕ) where
     module _ (more : q < e) where
       pub open_in : (q < length (row_kinds k s d)) × (get_or (row_kinds k s d) q 0 < 32) × (e ≤ length (row_kinds k s d))
       open_in = row_in (row_kinds k s d) q e o.kinds more
-
-      pub open_short : length s ≤ 1024 → (q < 1024) × (e ≤ 1024)
-      open_short short = let w = row_long k s d short in let z = open_in in (omega (arith, z.0), omega (arith, z.2))
 
       module _ {i : ℕ} (en : i ≡ get_or (row_kinds k s d) q 0) where
         pub open_kind : i < 32
@@ -223,149 +221,144 @@ module _ (s index : List ℕ) (k : ℕ) (b : List ℕ) where
         abbrev one : Language → Read Code → Sized
         one l p = sized_of (λ a. length (export l i a)) p
 
-        next : (l : Language) {x : Sized} → one l (read tree l [] (tree_levels - d) i (drop to b)) ≡ x
-            → row_at l k s d q e (drop to b) ≡ then_sized x (row_at l k s d (q + 1) e)
+        next : (l : Language) {x : Sized} → one l (read tree l [] (tree_levels - d) i (drop ends.tree b)) ≡ x
+            → row_at l k s d q e (drop ends.tree b) ≡ then_sized x (row_at l k s d (q + 1) e)
         unfolding row_at
         next l h =
-            row_next l (tree_levels - d) (row_kinds k s d) q e (drop to b) more open_in.2
-            ∙ (ap (λ (j : ℕ). then_sized (sized_of (λ a. length (export l j a)) (read tree l [] (tree_levels - d) j (drop to b))) (row_at l k s d (q + 1) e)) (sym en)
+            row_next l (tree_levels - d) (row_kinds k s d) q e (drop ends.tree b) more open_in.2
+            ∙ (ap (λ (j : ℕ). then_sized (sized_of (λ a. length (export l j a)) (read tree l [] (tree_levels - d) j (drop ends.tree b))) (row_at l k s d (q + 1) e)) (sym en)
             ∙ ap (λ (x : Sized). then_sized x (row_at l k s d (q + 1) e)) h)
 
-        module _ {y : Measured} (step : MeasuresTree s index i b to (tree_levels - d) n y) where
-          open_broken : y ≡ Broken → Answers Broken
+        module _ {y : Measured} (step : MeasuresTree s index i b ends.tree (tree_levels - d) ends.text y) where
+          open_broken : y ≡ Err Broken → Answers (Err Broken)
           open_broken h = (
             within_broken b,
             λ l z. sized_broken (export_all l (k ∷ [])) (read_all (read tree l [] tree_levels) (k ∷ []) b) b
-                (ap (add (o.counted l z).size) (sym (unwind_broken (waits_in l k s firsts lasts) d))
+                (ap (add (o.counted l z).size) (sym (unwind_broken (waits_in l k s rows) d))
                 ∙ (ap (λ (x : Sized). add (o.counted l z).size (left l x)) (sym (next l (ap (one l) ((step l z).broken h)))) ∙ (o.counted l z).comes)),
           )
 
-          open_deep : y ≡ Deep → Answers Deep
+          open_deep : y ≡ Err Deep → Answers (Err Deep)
           open_deep h = (
             within_deep b,
             λ l z. sized_deep (export_all l (k ∷ [])) (read_all (read tree l [] tree_levels) (k ∷ []) b) b
-                (ap (add (o.counted l z).size) (sym (unwind_deep (waits_in l k s firsts lasts) d))
+                (ap (add (o.counted l z).size) (sym (unwind_deep (waits_in l k s rows) d))
                 ∙ (ap (λ (x : Sized). add (o.counted l z).size (left l x)) (sym (next l (ap (one l) ((step l z).deep h)))) ∙ (o.counted l z).comes)),
           )
 
-          open_next : {t m : ℕ} → y ≡ End t m → t ≤ length b → Open s index k b firsts lasts d (q + 1) e t m
-          open_next {t} {m} h j =
+          open_next : {t : Ends} → y ≡ Ok t → t.tree ≤ length b → Open s index k b rows d (q + 1) e t
+          open_next {t} h j =
               record {
                 inside = j;
                 shallow = o.shallow;
                 kinds = λ x u v. o.kinds x (omega arith) v;
                 waiting = o.waiting;
-                first_long = o.first_long;
-                last_long = o.last_long;
+                long = o.long;
                 counted = λ l z.
                     let g = o.counted l z in
-                    let f = (step l z).found t m h in
+                    let f = (step l z).found t h in
                     record {
                       size = g.size + size_of l f.0;
                       count = sum_then g.count f.2;
-                      comes = sym (add_add g.size (size_of l f.0) (left l (row_at l k s d (q + 1) e (drop t b))))
-                          ∙ (ap (add g.size) (sym (unwind_add (waits_in l k s firsts lasts) d (size_of l f.0) (row_at l k s d (q + 1) e (drop t b))))
+                      comes = sym (add_add g.size (size_of l f.0) (left l (row_at l k s d (q + 1) e (drop t.tree b))))
+                          ∙ (ap (add g.size) (sym (unwind_add (waits_in l k s rows) d (size_of l f.0) (row_at l k s d (q + 1) e (drop t.tree b))))
                           ∙ (ap (λ (x : Sized). add g.size (left l x)) (sym (next l (ap (one l) f.1))) ∙ g.comes));
                     };
               }
 
         module _ (bytes : (j : ℕ) → get_or b j 0 < 256) {j class : ℕ} (ej : j ≡ i) (ec : class ≡ get_or index j 0) where
           -- A token.
-          module _ (some_class : class ≡ 0 → ⊥) {x : Measured} (token_is : MeasuresToken i (class_range s (class - 1)) b to n x) where
-            token_step : MeasuresTree s index i b to (tree_levels - d) n x
-            token_step = (at_class s index b i to (tree_levels - d) n open_kind bytes ej ec x some_class token_is).1
+          module _ (some_class : class ≡ 0 → ⊥) {x : Measured} (token_is : MeasuresToken i (class_range s (class - 1)) b ends.tree ends.text x) where
+            token_step : MeasuresTree s index i b ends.tree (tree_levels - d) ends.text x
+            token_step = (at_class s index b i ends.tree (tree_levels - d) ends.text open_kind bytes ej ec x some_class token_is).1
 
-            pub turn_no_token : x ≡ Broken → Answers Broken
-            turn_no_token h = open_broken token_step h
+            pub turn_no_token : {w : ReadError} → x ≡ Err w → Answers (Err w)
+            turn_no_token {w} h = go w h
+              where
+                go : (w : ReadError) → x ≡ Err w → Answers (Err w)
+                go Deep h = open_deep token_step h
+                go Broken h = open_broken token_step h
 
-            pub turn_deep_token : x ≡ Deep → Answers Deep
-            turn_deep_token h = open_deep token_step h
-
-            pub turn_token : {t m : ℕ} → x ≡ End t m → Open s index k b firsts lasts d (q + 1) e t m
-            turn_token {t} {m} h = open_next token_step h (token_is.0 t m h).1
+            pub turn_token : {t : Ends} → x ≡ Ok t → Open s index k b rows d (q + 1) e t
+            turn_token {t} h = open_next token_step h (token_is.0 t h).1
 
           module _ (no : class ≡ 0) where
-            pub turn_deep : d ≡ 64 → Answers Deep
-            turn_deep h = open_deep (at_deep s index b i to (tree_levels - d) n open_kind bytes ej ec no (omega arith)).1 refl
+            pub turn_deep : d ≡ 64 → Answers (Err Deep)
+            turn_deep h = open_deep (at_deep s index b i ends.tree (tree_levels - d) ends.text open_kind bytes ej ec no (omega arith)).1 refl
 
-            module _ (some_level : d ≡ 64 → ⊥) {place : ℕ} (ep : place ≡ cond (eqb class 0) (production_place Tree index i b to) 0) where
+            module _ (some_level : d ≡ 64 → ⊥) {place : ℕ} (ep : place ≡ cond (eqb class 0) (production_place Tree index i b ends.tree) 0) where
               levels_left : tree_levels - d ≡ 0 → ⊥
               levels_left h = some_level (omega (arith, o.shallow))
 
-              pub turn_broken : place ≡ 0 → Answers Broken
-              turn_broken h = open_broken (at_broken s index b i to (tree_levels - d) n open_kind bytes ej ec no levels_left ep h).1 refl
+              pub turn_broken : place ≡ 0 → Answers (Err Broken)
+              turn_broken h = open_broken (at_broken s index b i ends.tree (tree_levels - d) ends.text open_kind bytes ej ec no levels_left ep h).1 refl
 
               module _ (pos : place ≡ 0 → ⊥) where
-                pub turn_name : to < length b
-                turn_name = at_name s index b i to open_kind bytes ej ec ep pos
+                pub turn_name : ends.tree < length b
+                turn_name = at_name s index b i ends.tree open_kind bytes ej ec ep pos
 
                 pub turn_place : Sound index s → (place + 4 ≤ length s) × (length s ≤ 1024)
-                turn_place known = at_place s index b i to open_kind bytes ej ec ep pos known
+                turn_place known = at_place s index b i ends.tree open_kind bytes ej ec ep pos known
 
-                module _ {size m : ℕ} (es : size ≡ pair_at s place) (tags : Sum n (length (node_tag open_node i (get_or b to 0)) + length (node_tag close_node i (get_or b to 0))) m) where
+                module _ {row : Operands} {m : ℕ} (ef : row.first ≡ place + 4) (el : row.last ≡ place + 2 + pair_at s place)
+                    (tags : Sum ends.text (length (node_tag open_node i (get_or b ends.tree 0)) + length (node_tag close_node i (get_or b ends.tree 0))) m) where
+                  abbrev this : Operands
+                  this = record { first = q + 1; last = e }
+
                   abbrev then : Language → ℕ → List ℕ → Sized
-                  then l = waits_in l k s (set firsts d (q + 1)) (set lasts d e)
+                  then l = waits_in l k s (set rows d this)
 
                   abbrev both : ℕ
-                  both = length (node_tag open_node i (get_or b to 0)) + length (node_tag close_node i (get_or b to 0))
+                  both = length (node_tag open_node i (get_or b ends.tree 0)) + length (node_tag close_node i (get_or b ends.tree 0))
 
                   abbrev below : Language → Sized
-                  below l = row_sized l (tree_levels - d - 1) s (place + 4) (place + 2 + size) (drop (to + 1) b)
+                  below l = row_sized l (tree_levels - d - 1) s row.first row.last (drop (ends.tree + 1) b)
 
-                  others : (l : Language) (j : ℕ) → j < d → then l j ≡ waits_in l k s firsts lasts j
-                  others l j h =
-                      let ne : j ≡ d → ⊥ = λ y. omega arith in
-                      rw (get_or-set_other firsts d j (q + 1) 0 ne, get_or-set_other lasts d j e 0 ne) refl
+                  row_other : (j : ℕ) → (j ≡ d → ⊥) → waiting_at (set rows d this) j ≡ waiting_at rows j
+                  row_other j h = get_or-set_other rows d j this _ h
+
+                  row_same : waiting_at (set rows d this) d ≡ this
+                  row_same = let r : d < length rows = omega (arith, o.long, o.shallow, some_level) in get_or-set_same rows d this _ r
+
+                  others : (l : Language) (j : ℕ) → j < d → then l j ≡ waits_in l k s rows j
+                  others l j h = ap (λ (w : Operands). row_at l k s j w.first w.last) (row_other j (λ y. omega arith))
 
                   here : (l : Language) → then l d ≡ row_at l k s d (q + 1) e
-                  here l =
-                      let r : d < 64 = omega (arith, o.shallow, some_level) in
-                      let hf : d < length firsts = omega (arith, o.first_long) in
-                      let hl : d < length lasts = omega (arith, o.last_long) in
-                      rw (get_or-set_same firsts d (q + 1) 0 hf, get_or-set_same lasts d e 0 hl) refl
+                  here l = ap (λ (w : Operands). row_at l k s d w.first w.last) row_same
 
-                  down : (l : Language) → Indexed index s l → row_at l k s d q e (drop to b) ≡ add both (then_sized (below l) (row_at l k s d (q + 1) e))
+                  down : (l : Language) → Indexed index s l → row_at l k s d q e (drop ends.tree b) ≡ add both (then_sized (below l) (row_at l k s d (q + 1) e))
                   down l z =
-                      next l (at_opened s index b i to (tree_levels - d) n open_kind bytes ej ec no levels_left ep pos es tags l z)
+                      next l (at_opened s index b i ends.tree (tree_levels - d) ends.text open_kind bytes ej ec no levels_left ep pos refl tags l z
+                      ∙ ap (λ (w : ℕ). add both (row_sized l (tree_levels - d - 1) s w (place + 2 + pair_at s place) (drop (ends.tree + 1) b))) (sym ef)
+                      ∙ ap (λ (w : ℕ). add both (row_sized l (tree_levels - d - 1) s row.first w (drop (ends.tree + 1) b))) (sym el))
                       ∙ add_then both (below l) (row_at l k s d (q + 1) e)
 
-                  pushed : (l : Language) → unwind (then l) (d + 1) (row_at l k s (d + 1) (place + 4) (place + 2 + size) (drop (to + 1) b)) ≡ left l (then_sized (below l) (row_at l k s d (q + 1) e))
+                  pushed : (l : Language) → unwind (then l) (d + 1) (row_at l k s (d + 1) row.first row.last (drop (ends.tree + 1) b)) ≡ left l (then_sized (below l) (row_at l k s d (q + 1) e))
                   unfolding row_at
                   pushed l =
                       let r : suc d ≡ d + 1 = omega arith in
                       let v : tree_levels - (d + 1) ≡ tree_levels - d - 1 = omega arith in
-                      ap (λ (j : ℕ). unwind (then l) (d + 1) (row_sized l j (row_kinds k s (d + 1)) (place + 4) (place + 2 + size) (drop (to + 1) b))) v
-                      ∙ (ap (λ (ks : List ℕ). unwind (then l) (d + 1) (row_sized l (tree_levels - d - 1) ks (place + 4) (place + 2 + size) (drop (to + 1) b))) (below_root k s (d + 1) (λ y. omega arith))
+                      ap (λ (j : ℕ). unwind (then l) (d + 1) (row_sized l j (row_kinds k s (d + 1)) row.first row.last (drop (ends.tree + 1) b))) v
+                      ∙ (ap (λ (ks : List ℕ). unwind (then l) (d + 1) (row_sized l (tree_levels - d - 1) ks row.first row.last (drop (ends.tree + 1) b))) (below_root k s (d + 1) (λ y. omega arith))
                       ∙ (ap (λ (j : ℕ). unwind (then l) j (below l)) (sym r)
                       ∙ (unwind_one then_sized (then l) d (below l)
                       ∙ (ap (λ (h : List ℕ → Sized). unwind (then l) d (then_sized (below l) h)) (here l)
-                      ∙ unwind_same then_sized (waits_in l k s firsts lasts) (then l) d (then_sized (below l) (row_at l k s d (q + 1) e)) (others l)))))
+                      ∙ unwind_same then_sized (waits_in l k s rows) (then l) d (then_sized (below l) (row_at l k s d (q + 1) e)) (others l)))))
 
-                  waits : length s ≤ 1024 → (j : ℕ) → j < d + 1
-                      → (get_or (set firsts d (q + 1)) j 0 ≤ 1024) × (get_or (set lasts d e) j 0 ≤ 1024) × KindsIn (row_kinds k s j) (get_or (set firsts d (q + 1)) j 0) (get_or (set lasts d e) j 0)
-                  waits short j h =
+                  waits : (j : ℕ) → j < d + 1 → KindsIn (row_kinds k s j) (waiting_at (set rows d this) j).first (waiting_at (set rows d this) j).last
+                  waits j h =
                       by_test (eqb j d)
-                      (λ t.
-                      let y : j ≡ d = eqb-true j d t in
-                      let r : d < 64 = omega (arith, o.shallow, some_level) in
-                      let hf : d < length firsts = omega (arith, o.first_long) in
-                      let hl : d < length lasts = omega (arith, o.last_long) in
-                      let w = open_short short in
-                      rw (y, get_or-set_same firsts d (q + 1) 0 hf, get_or-set_same lasts d e 0 hl)
-                      (omega (arith, w.0), w.1, λ x g v. o.kinds x (omega arith) v))
-                      (λ t.
-                      let y : j ≡ d → ⊥ = eqb-false j d t in
-                      rw (get_or-set_other firsts d j (q + 1) 0 y, get_or-set_other lasts d j e 0 y) (o.waiting j (omega arith)))
+                      (λ t. rw (eqb-true j d t, row_same) (λ x g v. o.kinds x (omega arith) v))
+                      (λ t. let y : j ≡ d → ⊥ = eqb-false j d t in rw (row_other j y) (o.waiting j (omega arith)))
 
-                  pub turn_down : Sound index s → Open s index k b (set firsts d (q + 1)) (set lasts d e) (d + 1) (place + 4) (place + 2 + size) (to + 1) m
+                  pub turn_down : Sound index s → Open s index k b (set rows d this) (d + 1) row.first row.last (record { tree = ends.tree + 1; text = m })
                   turn_down known =
                       record {
                         inside = let w = turn_name in omega (arith, w);
                         shallow = omega (arith, o.shallow, some_level);
-                        kinds = rw (below_root k s (d + 1) (λ y. omega arith)) (at_kinds s index b i to open_kind bytes ej ec ep pos es known);
-                        waiting = waits known.short;
-                        first_long = length-set firsts d (q + 1) ∙ o.first_long;
-                        last_long = length-set lasts d e ∙ o.last_long;
+                        kinds = rw (below_root k s (d + 1) (λ y. omega arith), ef, el) (at_kinds s index b i ends.tree open_kind bytes ej ec ep pos refl known);
+                        waiting = waits;
+                        long = length-set rows d this ∙ o.long;
                         counted = λ l z.
                             let g = o.counted l z in
                             let x = then_sized (below l) (row_at l k s d (q + 1) e) in
@@ -374,7 +367,7 @@ module _ (s index : List ℕ) (k : ℕ) (b : List ℕ) where
                               count = sum_then g.count tags;
                               comes = ap (add (g.size + both)) (pushed l)
                                   ∙ (sym (add_add g.size both (left l x))
-                                  ∙ (ap (add g.size) (sym (unwind_add (waits_in l k s firsts lasts) d both x))
+                                  ∙ (ap (add g.size) (sym (unwind_add (waits_in l k s rows) d both x))
                                   ∙ (ap (λ (y : Sized). add g.size (left l y)) (sym (down l z)) ∙ g.comes)));
                             };
                       }

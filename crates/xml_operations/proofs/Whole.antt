@@ -1,4 +1,5 @@
 -- What import answers: a law for each return of `import_text` and `import`.
+use Rattle.std.specs.Prelude.{Err, Ok}
 use Prim.Native.Nat.{ℕ, ◌<◌, ◌≤◌}
 use mathlib.Core.Path.{◌≡◌, refl, sym, ap, ◌∙◌}
 use mathlib.Core.Bool.{Bool, true, false, not}
@@ -7,10 +8,8 @@ use native.Mathlib.Omega.{arith}
 use lib.ListN.{length, get_or, drop, drop_of_length-le}
 use lib.Dec.{leb}
 use borrow.Author.Tests.{leb-true, leb-false}
-use Rattle.outcome.specs.Outcome.{Result, value, refused, refuse_if, ◌>>=◌}
+use Rattle.outcome.specs.Outcome.{Result, value, refused, refuse_if, ◌>>=◌, Outcome}
 use Rattle.format_fields.specs.Inner.Writing.{spliced}
-use Rattle.outcome.specs.declared.Outcome.{Outcome}
-use Rattle.outcome.specs.declared.Outcome.TheVariants.{Accepted, Refused}
 use Rattle.outcome.specs.declared.Reason.{Reason}
 use Rattle.outcome.specs.declared.Reason.TheVariants as Why
 use Rattle.format_fields.proofs.Split.{front}
@@ -23,9 +22,7 @@ use Rattle.tree_reader.specs.Inner.Index.{Indexed}
 use Rattle.format_translation.specs.Operations.{fitted}
 use Rattle.xml_text.specs.Import.{read_text}
 use Rattle.xml_operations.specs.Operations.{whole_text, import_of, import_bytes, import_tree}
-use Rattle.xml_text.specs.declared.import.Text.{Text}
-use Rattle.xml_text.specs.declared.import.Text.TheVariants.{End, Deep, Broken}
-use Rattle.xml_text.specs.Inner.Importing.{Inside, ImportsTree}
+use Rattle.xml_text.specs.Inner.Importing.{Text, Inside, ImportsTree}
 use Rattle.xml_text.specs.Inner.Contents.{Contents}
 use Rattle.xml_operations.specs.Inner.Answering.{GivesWhole}
 use Rattle.xml_text.proofs.Held.{held_whole}
@@ -39,17 +36,11 @@ result room p = whole_text p >>= λ t. fitted room (write tree t)
 
 -- import_text
 module _ (s index : List ℕ) (k : ℕ) (text o : List ℕ) {x : Text} (first : ImportsTree s index k text 0 tree_levels x) where
-  pub text_deep : {out : Outcome} → x ≡ Deep → out ≡ Refused Why.TooDeep → GivesWhole s index k text o o out
-  text_deep h i l z = gives_refused _ o Why.TooDeep (ap (result (length o)) ((first l z).deep h)) i
-
-  pub text_broken : {out : Outcome} → x ≡ Broken → out ≡ Refused Why.NotAnExport → GivesWhole s index k text o o out
-  text_broken h i l z = gives_refused _ o Why.NotAnExport (ap (result (length o)) ((first l z).broken h)) i
-
-  module _ {e : ℕ} (ex : x ≡ End e) (inside : Inside text x) where
+  module _ {e : ℕ} (ex : x ≡ Ok e) (inside : Inside text x) where
     one : (l : Language) → Indexed index s l → (a : Code) × (read_text l tree_levels k text ≡ done a (drop e text))
     one l z = (first l z).found e ex
 
-    pub text_left : {out : Outcome} → (e ≡ length text → ⊥) → out ≡ Refused Why.NotAnExport → GivesWhole s index k text o o out
+    pub text_left : {out : Outcome} → (e ≡ length text → ⊥) → out ≡ Err Why.NotAnExport → GivesWhole s index k text o o out
     text_left h i l z =
         let f = one l z in
         let j = inside e ex in
@@ -64,18 +55,18 @@ module _ (s index : List ℕ) (k : ℕ) (text o : List ℕ) {x : Text} (first : 
       holds l z = held_whole s l z.entries bytes tree_levels k text (one l z).0 (whole l z)
 
       module _ {y : Bool} (room : (v : List ℕ) → Contents text v → y ≡ leb (length v) (length o)) where
-        pub text_long : {out : Outcome} → y ≡ false → out ≡ Refused Why.OutputTooShort → GivesWhole s index k text o o out
+        pub text_long : {out : Outcome} → y ≡ false → out ≡ Err Why.OutputTooShort → GivesWhole s index k text o o out
         text_long h i l z =
             let n = leb-false (length (write tree (one l z).0)) (length o) (sym (room _ (holds l z)) ∙ h) in
             gives_same _ _ o o (ap (result (length o)) (whole l z)) (gives_long (write tree (one l z).0) o (omega arith) i)
 
-        pub text_done : {o' : List ℕ} {n : ℕ} {out : Outcome} → y ≡ true → ((v : List ℕ) → Contents text v → length v ≤ length o → (o' ≡ spliced o 0 v) × (n ≡ length v)) → out ≡ Accepted n
+        pub text_done : {o' : List ℕ} {n : ℕ} {out : Outcome} → y ≡ true → ((v : List ℕ) → Contents text v → length v ≤ length o → (o' ≡ spliced o 0 v) × (n ≡ length v)) → out ≡ Ok n
             → GivesWhole s index k text o o' out
         text_done {o'} h put i l z =
             let t = (one l z).0 in
             let g = leb-true (length (write tree t)) (length o) (sym (room _ (holds l z)) ∙ h) in
             let w = put (write tree t) (holds l z) g in
-            gives_same _ _ o o' (ap (result (length o)) (whole l z)) (gives_fit (write tree t) o o' g (i ∙ ap Accepted w.1) w.0)
+            gives_same _ _ o o' (ap (result (length o)) (whole l z)) (gives_fit (write tree t) o o' g (i ∙ ap Ok w.1) w.0)
 
 -- import
 -- The outcome and the output are those of the operation.
@@ -97,7 +88,7 @@ module _ (s : List ℕ) (root : ℕ) (text o : List ℕ) where
   by_root = (λ i. language_of s >>= λ l. of_root l i) ∙ rooted_steps s root (λ l. result (length o) (read_text l tree_levels root text))
 
   module _ {out : Outcome} where
-    pub import_refused : {r : Reason} → rooted_of s root ≡ refused r → out ≡ Refused r → AsImport s root text o o out
+    pub import_refused : {r : Reason} → rooted_of s root ≡ refused r → out ≡ Err r → AsImport s root text o o out
     unfolding import_tree
     import_refused {r} e i = gives_refused (import_bytes s root text (length o)) o r (by_root ∙ rw e refl) i
 

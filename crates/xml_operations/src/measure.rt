@@ -10,42 +10,31 @@ ghost use Rattle.xml_text.specs.Text.{export, node_tag, open_node, close_node};
 ghost use Rattle.xml_operations.specs.Inner.Measuring.{Sum, Within, Reaches, Measures, MeasuresTrees};
 
 use crate::put::width;
-use format_fields::bytes::{pair_in, to_usize};
-use format_language::range::in_range;
-use tree_reader::node::{Syntax, place_at, production_place};
+use format_fields::bytes::pair_in;
+use tree_reader::node::{ReadError, Syntax, place_at, production_place, token};
+use tree_reader::operands::{Operands, operands_of};
+use tree_reader::read::TREE_LEVELS;
 use xml_text::import::kind_at;
 
-// The position behind a tree and the length of the exports so far; one level too many; or bytes that are no tree.
-#[derive(Clone, Copy)]
-pub enum Measured {
-    End(usize, usize),
-    Deep,
-    Broken,
+// Where a tree ends, and where its export does, behind what was put before it.
+#[derive(Clone, Copy, Debug, PartialEq, Eq)]
+pub struct Ends {
+    pub tree: usize,
+    pub text: usize,
 }
 
-// A tree has at most 64 levels.
-const LEVELS: usize = 64;
+// What was measured of a tree, or why it is not read.
+pub type Measured = Result<Ends, ReadError>;
 
-// No output is longer than this.
-const MOST: usize = 9223372036854775807;
+// A tree has at most 64 levels.
+const LEVELS: usize = TREE_LEVELS;
 
 // The bytes of both tags of a token, and of a production, that are no digits.
 const TOKEN: usize = 7;
 
 const PRODUCTION: usize = 9;
 
-// The sum of two lengths. What is above the length of every output is not added to.
-fn plus(n: usize, size: usize) -> usize
-    requires { size ≤ 32 }
-    ensures { Sum n size result }
-{
-    if MOST < n {
-        return n;
-    }
-    n + size
-}
-
-// The token of a kind, by the place of its class.
+// The token of a kind, by the place of its class. A length above that of every output is not exact.
 fn measure_token(
     language: &[u8],
     class: usize,
@@ -58,81 +47,58 @@ fn measure_token(
     ensures { Reaches tree.now at result
         × ((l : Language) → Measures (export l kind) (read_token (some (class_range language.now (class - 1))) (drop at tree.now)) tree.now n result) }
 {
-    if tree.len() - at < 2 {
-        return Measured::Broken;
-    }
-    let value = pair_in(tree, at);
-    if !in_range(language, class - 1, value) {
-        return Measured::Broken;
-    }
-    let size = TOKEN + 2 * width(to_usize(kind)) + width(value);
-    Measured::End(at + 2, plus(n, size))
+    let end = token(language, class, tree, at)?;
+    let size = TOKEN + 2 * width(usize::from(kind)) + width(pair_in(tree, at));
+    Ok(Ends {
+        tree: end,
+        text: n.saturating_add(size),
+    })
 }
 
 // The length so far with both tags of a production.
 fn plus_tags(n: usize, kind: u8, name: u8) -> usize
     ensures { Sum n (length (node_tag open_node kind name) + length (node_tag close_node kind name)) result }
 {
-    plus(
-        n,
-        PRODUCTION + 2 * (width(to_usize(kind)) + width(to_usize(name))),
-    )
+    n.saturating_add(PRODUCTION + 2 * (width(usize::from(kind)) + width(usize::from(name))))
 }
 
-// The tree of a kind at the front of some bytes. The rows above the one that is read wait in two tables, the outermost first.
+// The tree of a kind at the front of some bytes. The rows above the one that is read wait, the outermost first.
 pub fn measure_all(language: &[u8], index: &[u16], root: u8, tree: &[u8]) -> Measured
     requires { Ready index.now language.now root tree.now 0 }
     ensures { Within tree.now result
         × MeasuresTrees (root ∷ []) language.now index.now 0 1 tree.now 0 tree_levels 0 result }
 {
-    let mut firsts = [0u16; LEVELS];
-    let mut lasts = [0u16; LEVELS];
+    let mut rows = [Operands { first: 0, last: 0 }; LEVELS];
     let mut depth = 0;
-    let mut q = 0;
-    let mut end = 1;
-    let mut to = 0;
-    let mut n = 0;
+    let mut row = Operands { first: 0, last: 1 };
+    let mut ends = Ends { tree: 0, text: 0 };
     loop {
-        if end <= q {
+        if row.last <= row.first {
             if depth == 0 {
-                return Measured::End(to, n);
+                return Ok(ends);
             }
             depth -= 1;
-            q = firsts[depth] as usize;
-            end = lasts[depth] as usize;
+            row = rows[depth];
             continue;
         }
-        let kind = kind_at(language, root, depth, q);
-        let class = place_at(index, to_usize(kind));
-        q += 1;
+        let kind = kind_at(language, root, depth, row.first);
+        let class = place_at(index, usize::from(kind));
+        row.first += 1;
         if class != 0 {
-            match measure_token(language, class, kind, tree, to, n) {
-                Measured::End(e, m) => {
-                    to = e;
-                    n = m;
-                    continue;
-                }
-                Measured::Deep => {
-                    return Measured::Deep;
-                }
-                Measured::Broken => {
-                    return Measured::Broken;
-                }
-            }
+            ends = measure_token(language, class, kind, tree, ends.tree, ends.text)?;
+            continue;
         }
         if depth == LEVELS {
-            return Measured::Deep;
+            return Err(ReadError::Deep);
         }
-        let place = production_place(Syntax::Tree, index, class, kind, tree, to);
+        let place = production_place(Syntax::Tree, index, class, kind, tree, ends.tree);
         if place == 0 {
-            return Measured::Broken;
+            return Err(ReadError::Broken);
         }
-        n = plus_tags(n, kind, tree[to]);
-        firsts[depth] = q as u16;
-        lasts[depth] = end as u16;
+        ends.text = plus_tags(ends.text, kind, tree[ends.tree]);
+        ends.tree += 1;
+        rows[depth] = row;
         depth += 1;
-        q = place + 4;
-        end = place + 2 + pair_in(language, place);
-        to += 1;
+        row = operands_of(language, place);
     }
 }

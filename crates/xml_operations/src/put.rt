@@ -29,19 +29,13 @@ pub fn width(number: usize) -> usize
     requires { number < 65536 }
     ensures { (result ≡ length (decimal number)) × (result ≤ 5) }
 {
-    if number < 10 {
-        return 1;
+    match number {
+        0..=9 => 1,
+        10..=99 => 2,
+        100..=999 => 3,
+        1000..=9999 => 4,
+        _ => 5,
     }
-    if number < 100 {
-        return 2;
-    }
-    if number < 1000 {
-        return 3;
-    }
-    if number < 10000 {
-        return 4;
-    }
-    5
 }
 
 // Writes a number of one or two digits.

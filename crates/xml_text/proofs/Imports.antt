@@ -5,6 +5,9 @@ use mathlib.Core.Bool.{◌&&◌}
 use mathlib.Core.List.{List, [], ◌∷◌, ◌++◌, map}
 use mathlib.Core.Option.{Option, none, some}
 use native.Mathlib.Omega.{arith}
+use Rattle.std.specs.Prelude.{Ok, Err}
+use Rattle.std.specs.Prelude as Std
+use Rattle.std.proofs.lemmas.Option.{some_pair_parts}
 use lib.ListN.{length, get_or, drop}
 use lib.Seq.{slice}
 use lib.Dec.{ltb, eqb}
@@ -26,48 +29,45 @@ use Rattle.tree_reader.proofs.Laws.{name_in, kinds_in}
 use Rattle.format_fields.specs.Decimal.{decimal}
 use Rattle.xml_text.specs.Text.{close_node, node_tag}
 use Rattle.xml_text.specs.Import.{read_word, read_opening, read_closing, read_token, read_operands, read_element, read_text}
-use Rattle.xml_text.specs.declared.scan.Number.{Number}
-use Rattle.xml_text.specs.declared.scan.Number.TheVariants as N
-use Rattle.xml_text.specs.declared.import.Element.{Element}
-use Rattle.xml_text.specs.declared.import.Element.TheVariants as E
-use Rattle.xml_text.specs.declared.import.Text.TheVariants.{End, Deep, Broken}
+use Rattle.tree_reader.specs.declared.operands.Operands.{Operands}
+use Rattle.xml_text.specs.declared.import.TextError.TheVariants.{Deep, Broken}
 use Rattle.xml_text.specs.Inner.Scanning.{closes, Numbers, Tokens}
-use Rattle.xml_text.specs.Inner.Importing.{Inside, Imports, Opens, OpensElement, Elements, ImportsTree, place_of}
+use Rattle.xml_text.specs.Inner.Importing.{Text, Inside, Imports, Opens, OpensElement, Elements, ImportsTree, place_of}
 use Rattle.xml_text.proofs.Round.{class_text, no_class, opening_sound}
 use Rattle.xml_text.proofs.Words.{closing_word}
 use Rattle.check_operations.proofs.Reading.{class_known, class_none, production_none, production_known}
 use Rattle.xml_text.proofs.Scans.{no_number, number_at_lem, closes_tag}
 
 -- Answers.
-not_end : {e : ℕ} {A : Type 0} → Deep ≡ End e → A
-not_end h = let z : ◌≡◌ {A = ℕ} 0 1 = cc in absurd (omega arith)
+not_end : {e : ℕ} {A : Type 0} → ◌≡◌ {A = Text} (Err Deep) (Ok e) → A
+not_end h = absurd (cc)
 
-broken_end : {e : ℕ} {A : Type 0} → Broken ≡ End e → A
-broken_end h = let z : ◌≡◌ {A = ℕ} 0 1 = cc in absurd (omega arith)
+broken_end : {e : ℕ} {A : Type 0} → ◌≡◌ {A = Text} (Err Broken) (Ok e) → A
+broken_end h = absurd (cc)
 
-deep_broken : {A : Type 0} → Deep ≡ Broken → A
-deep_broken h = let z : ◌≡◌ {A = ℕ} 0 1 = cc in absurd (omega arith)
+deep_broken : {A : Type 0} → ◌≡◌ {A = Text} (Err Deep) (Err Broken) → A
+deep_broken h = absurd (cc)
 
-end_same : {e d : ℕ} → End e ≡ End d → e ≡ d
+end_same : {e d : ℕ} → ◌≡◌ {A = Text} (Ok e) (Ok d) → e ≡ d
 end_same h = cc
 
-pub inside_deep : (text : List ℕ) → Inside text Deep
+pub inside_deep : (text : List ℕ) → Inside text (Err Deep)
 inside_deep text e h = not_end h
 
-pub inside_broken : (text : List ℕ) → Inside text Broken
+pub inside_broken : (text : List ℕ) → Inside text (Err Broken)
 inside_broken text e h = broken_end h
 
-pub inside_end : (text : List ℕ) (e : ℕ) → e ≤ length text → Inside text (End e)
+pub inside_end : (text : List ℕ) (e : ℕ) → e ≤ length text → Inside text (Ok e)
 inside_end text e h d q = let w = end_same q in omega arith
 
 module _ {A : Type 0} {p : Read A} {text : List ℕ} where
-  pub imports_deep : p ≡ deep → Imports p text Deep
+  pub imports_deep : p ≡ deep → Imports p text (Err Deep)
   imports_deep h = record { found = λ e q. not_end q; deep = λ q. h; broken = λ q. deep_broken q }
 
-  pub imports_broken : p ≡ broken → Imports p text Broken
+  pub imports_broken : p ≡ broken → Imports p text (Err Broken)
   imports_broken h = record { found = λ e q. broken_end q; deep = λ q. deep_broken (sym q); broken = λ q. h }
 
-  pub imports_end : {e : ℕ} (a : A) → p ≡ done a (drop e text) → Imports p text (End e)
+  pub imports_end : {e : ℕ} (a : A) → p ≡ done a (drop e text) → Imports p text (Ok e)
   imports_end {e} a h = record {
     found = λ d q. let w = end_same q in (a, h ∙ ap (λ (n : ℕ). done a (drop n text)) w);
     deep = λ q. not_end (sym q);
@@ -75,7 +75,7 @@ module _ {A : Type 0} {p : Read A} {text : List ℕ} where
   }
 
 -- place_of
-pub place_large : (index : List ℕ) (k p : ℕ) → 256 ≤ p → 0 ≡ place_of index k p
+pub place_large : (index : List ℕ) (k p : ℕ) → 256 ≤ p → place_of index k p ≡ 0
 unfolding place_of
 place_large index k p h = let i : 255 < p = omega arith in cc (lt-ltb 255 p i)
 
@@ -108,7 +108,7 @@ module _ (s : List ℕ) (l : Language) (e : entries_of s ≡ some l) (bytes : (i
       go none f = refl
       go (some ks) f = let w = name_small k p ks f in absurd (omega arith)
 
-pub opens_is : {k : ℕ} {text : List ℕ} {at p a : ℕ} {x : Number} → Numbers (read_opening k (drop at text)) text (at + 2) x → x ≡ N.Is p a → Opens k text at p a
+pub opens_is : {k : ℕ} {text : List ℕ} {at p a : ℕ} {x : Std.Option (ℕ × ℕ)} → Numbers (read_opening k (drop at text)) text (at + 2) x → x ≡ Std.Some (p, a) → Opens k text at p a
 opens_is {p = p} {a = a} w h = let z = w.reached p a h in record { reads = w.found p a h; small = w.small p a h; past = z.past; inside = z.inside }
 
 -- What is left behind two readings.
@@ -133,8 +133,8 @@ then_rest_lem deep f g same = refl
 then_rest_lem broken f g same = refl
 
 -- element_at
-not_of : {q e a : ℕ} {A : Type 0} → E.Nothing ≡ E.Of q e a → A
-not_of h = let z : ◌≡◌ {A = ℕ} 0 1 = cc in absurd (omega arith)
+not_of : {o : Operands} {a : ℕ} {A : Type 0} → ◌≡◌ {A = Std.Option (Operands × ℕ)} Std.None (Std.Some (o, a)) → A
+not_of h = absurd (cc)
 
 found_name : (index : List ℕ) (k p : ℕ) {place : ℕ} → place ≡ place_of index k p → (place ≡ 0 → ⊥) → (p < 256) × (place ≡ get_or index (production_key k p) 0)
 unfolding place_of
@@ -143,22 +143,22 @@ found_name index k p ep pos =
     (λ t. absurd (pos (cc)))
     (λ t. let g = ltb-false 255 p t in (omega arith, cc))
 
-module _ (s index text : List ℕ) (k at : ℕ) (kind : k < 32) (bytes : (i : ℕ) → get_or s i 0 < 256) {x : Number} (opened : Numbers (read_opening k (drop at text)) text (at + 2) x) where
-  element_not : ((l : Language) → Indexed index s l → (reads : ℕ → List ℕ → Read Code) → read_element reads l k (drop at text) ≡ broken) → Elements s index k text at E.Nothing
-  element_not f = record { found = λ q e a h. not_of h; nothing = λ h. f }
+module _ (s index text : List ℕ) (k at : ℕ) (kind : k < 32) (bytes : (i : ℕ) → get_or s i 0 < 256) {x : Std.Option (ℕ × ℕ)} (opened : Numbers (read_opening k (drop at text)) text (at + 2) x) where
+  element_not : ((l : Language) → Indexed index s l → (reads : ℕ → List ℕ → Read Code) → read_element reads l k (drop at text) ≡ broken) → Elements s index k text at Std.None
+  element_not f = record { found = λ o a h. not_of h; nothing = λ h. f }
 
   unknown : (reads : ℕ → List ℕ → Read Code) (l : Language) (p : ℕ) (r : List ℕ) → arguments_of l k p ≡ none → read_operands reads k p (arguments_of l k p) r ≡ broken
   unfolding read_operands
   unknown reads l p r e = ap (λ (q : Option (List ℕ)). read_operands reads k p q r) e
 
-  pub element_nothing : x ≡ N.Nothing → Elements s index k text at E.Nothing
+  pub element_nothing : x ≡ Std.None → Elements s index k text at Std.None
   unfolding read_element
   element_nothing h =
       element_not (λ l z reads. no_number (read_opening k (drop at text)) (λ p r. read_operands reads k p (arguments_of l k p) r) (opened.nothing h)
       (λ p r g. unknown reads l p r (large_none s l z.entries bytes k p (omega arith))))
 
-  module _ {p a : ℕ} (ex : x ≡ N.Is p a) {place : ℕ} (ep : place ≡ place_of index k p) where
-    pub element_unknown : place ≡ 0 → Elements s index k text at E.Nothing
+  module _ {p a : ℕ} (ex : x ≡ Std.Some (p, a)) {place : ℕ} (ep : place ≡ place_of index k p) where
+    pub element_unknown : place ≡ 0 → Elements s index k text at Std.None
     unfolding place_of read_element
     element_unknown h =
         element_not (λ l z reads. number_at_lem opened (λ p r. read_operands reads k p (arguments_of l k p) r) ex ∙ unknown reads l p (drop a text) (none_at l z))
@@ -176,24 +176,22 @@ module _ (s index text : List ℕ) (k at : ℕ) (kind : k < 32) (bytes : (i : �
       pub element_place : (place + 4 ≤ length s) × (length s ≤ 1024)
       element_place = let f = found_name index k p ep pos in name_in index s known refl kind f.0 f.1 pos
 
-      pub element_found : {first last : ℕ} → first ≡ place + 4 → last ≡ place + 2 + pair_at s place → Elements s index k text at (E.Of first last a)
-      element_found {first} {last} ef el =
+      pub element_found : {o : Operands} → o.first ≡ place + 4 → o.last ≡ place + 2 + pair_at s place → Elements s index k text at (Std.Some (o, a))
+      element_found {o} ef el =
           let f = found_name index k p ep pos in
           record {
-            found = λ q e b h.
-                let u : q ≡ place + 4 = cc in
-                let v : e ≡ place + 2 + pair_at s place = cc in
-                let t : b ≡ a = cc in
-                record {
+            found = λ q b h.
+                let t = some_pair_parts o q a b h in
+                rw (← t.0, ← t.1) (record {
                   name = p;
                   place = place;
-                  opens = rw t (opens_is opened ex);
+                  opens = opens_is opened ex;
                   is_place = ep;
                   some_place = pos;
-                  from = u;
-                  to = v;
-                  kinds = rw (u, v) (kinds_in index s known refl kind f.0 f.1 pos refl);
-                };
+                  from = ef;
+                  to = el;
+                  kinds = rw (ef, el) (kinds_in index s known refl kind f.0 f.1 pos refl);
+                });
             nothing = λ h. not_of (sym h);
           }
 
@@ -207,18 +205,18 @@ module _ (s index text : List ℕ) (k at levels : ℕ) (kind : k < 32) (bytes : 
   class_is = ec ∙ ap (λ (i : ℕ). get_or index i 0) ej
 
   -- A token.
-  module _ (some_class : class ≡ 0 → ⊥) {x : Number} (token_is : Tokens (read_token k (class_range s (class - 1)) (drop at text)) text (at + 2) x) where
+  module _ (some_class : class ≡ 0 → ⊥) {x : Std.Option (ℕ × ℕ)} (token_is : Tokens (read_token k (class_range s (class - 1)) (drop at text)) text (at + 2) x) where
     token : (l : Language) → Indexed index s l → read_text l levels k (drop at text) ≡ read_token k (class_range s (class - 1)) (drop at text)
     token l z = class_text l levels k (class_range s (class - 1)) (drop at text) (class_known s index l z k kind class class_is some_class)
 
-    pub at_no_token : x ≡ N.Nothing → ImportsTree s index k text at levels Broken
+    pub at_no_token : x ≡ Std.None → ImportsTree s index k text at levels (Err Broken)
     at_no_token h l z = imports_broken (token l z ∙ token_is.nothing h)
 
-    pub at_token : {v e : ℕ} → x ≡ N.Is v e → ImportsTree s index k text at levels (End e)
+    pub at_token : {v e : ℕ} → x ≡ Std.Some (v, e) → ImportsTree s index k text at levels (Ok e)
     at_token {v} {e} h l z = imports_end (leaf v) (token l z ∙ token_is.found v e h)
 
   module _ (no : class ≡ 0) where
-    pub at_deep : levels ≡ 0 → ImportsTree s index k text at levels Deep
+    pub at_deep : levels ≡ 0 → ImportsTree s index k text at levels (Err Deep)
     at_deep h l z =
         imports_deep (ap (λ (i : ℕ). read_text l i k (drop at text)) h ∙ text_past l k (drop at text) (class_none s index l z k kind class class_is no))
 
@@ -228,13 +226,19 @@ module _ (s index text : List ℕ) (k at levels : ℕ) (kind : k < 32) (bytes : 
           let m : levels ≡ suc (levels - 1) = omega arith in
           ap (λ (i : ℕ). read_text l i k (drop at text)) m ∙ no_class l (levels - 1) k (drop at text) (class_none s index l z k kind class class_is no)
 
-      module _ {x : Element} (elements : Elements s index k text at x) where
-        pub at_no_element : x ≡ E.Nothing → ImportsTree s index k text at levels Broken
+      module _ {x : Std.Option (Operands × ℕ)} (elements : Elements s index k text at x) where
+        pub at_no_element : x ≡ Std.None → ImportsTree s index k text at levels (Err Broken)
         at_no_element h l z = imports_broken (element l z ∙ elements.nothing h l z (read_text l (levels - 1)))
 
-        module _ {q e a : ℕ} (ex : x ≡ E.Of q e a) where
+        module _ {o : Operands} {a : ℕ} (ex : x ≡ Std.Some (o, a)) where
+          abbrev q : ℕ
+          q = o.first
+
+          abbrev e : ℕ
+          e = o.last
+
           is_element : OpensElement s index k text at q e a
-          is_element = elements.found q e a ex
+          is_element = elements.found o a ex
 
           abbrev p : ℕ
           p = is_element.name

@@ -1,13 +1,23 @@
 -- A law for each return and loop turn of the functions of scan.rt.
-use Prim.Native.Nat.{ℕ, zero, suc, ◌+◌, ◌*◌, ◌/◌, ◌%◌, ◌-◌, ◌<◌, ◌≤◌}
+use Prim.Native.Nat.{ℕ, suc, ◌+◌, ◌*◌, ◌/◌, ◌%◌, ◌-◌, ◌^◌, ◌<◌, ◌≤◌}
 use mathlib.Core.Path.{◌≡◌, refl, sym, ap, ◌∙◌}
 use mathlib.Core.Bool.{Bool, true, false}
 use mathlib.Core.List.{List, [], ◌∷◌, ◌++◌}
+use native.Mathlib.Nat.{pow-le-pow_right, pow-suc, zero-lt-suc}
 use native.Mathlib.Omega.{arith}
-use lib.ListN.{length, get_or, drop, drop_of_length-le, length-append, length-take, length-drop}
-use lib.Seq.{get_or-take, get_or-drop, drop-drop, take_at}
+use Rattle.std.specs.Prelude.{Option, Some, None}
+use Rattle.std.proofs.lemmas.Option.{some_pair_parts}
+use lib.ListN.{length, get_or, take, drop, drop_of_length-le, length-append, length-take, length-drop}
+use Rattle.std.proofs.lemmas.List.{take-append-drop}
+use lib.Seq.{get_or-take, get_or-drop, drop-drop, take_at, take_all}
+use Rattle.std.proofs.Common.{Fits, w8}
+use Rattle.std.specs.Bool.{Decides}
+use Rattle.std.specs.Char.{is_ascii_digit}
+use Rattle.std.specs.Cmp.Lexicographic.{pointwise}
+use Rattle.std.proofs.lemmas.Slice.Eq.{slice_eq-Decides}
+use Rattle.std.proofs.lemmas.Bool.Decides.{Decides-eqb}
 use lib.Dec.{leb, eqb}
-use borrow.Author.Tests.{le-leb, lt-leb, eq-eqb, ne_eqb, eqb-true, eqb-false}
+use borrow.Author.Tests.{lt-leb, ne_eqb, eqb-true, eqb-false}
 use Rattle.format_fields.specs.Fields.{pair_at}
 use Rattle.format_fields.proofs.Truth.{by_test}
 use Rattle.format_fields.proofs.Split.{front}
@@ -18,41 +28,40 @@ use Rattle.tree_reader.specs.Syntax.{Read, done, deep, broken, and_then}
 use Rattle.format_fields.specs.Decimal.{decimal}
 use Rattle.xml_text.specs.Text.{open_token, close_token, tag_end, token_tag}
 use Rattle.xml_text.specs.Import.{is_digit, read_word, read_digits, read_number, read_opening, read_token_tag, read_token}
-use Rattle.xml_text.specs.declared.scan.Place.{Place}
-use Rattle.xml_text.specs.declared.scan.Place.TheVariants.{At, Nothing}
-use Rattle.xml_text.specs.declared.scan.Number.{Number}
-use Rattle.xml_text.specs.declared.scan.Number.TheVariants as N
 use Rattle.xml_text.specs.Inner.Scanning.{NoToken, TellsToken, begins, closes, Stands, NoNumber, Numbers, Tokens}
 use Rattle.format_fields.proofs.Decimal.{decimal_small, decimal_two, decimal_some}
-use Rattle.xml_text.proofs.Decimal.{digit_range, number_sound, word_sound}
-use Rattle.xml_text.proofs.Words.{word_shallow, number_shallow, tag_word, ends, opening_word, begins_cut}
+use Rattle.xml_text.proofs.Decimal.{digit_range, number_sound, word_round, word_sound}
+use Rattle.xml_text.proofs.Words.{word_shallow, number_shallow, tag_word, ends, opening_word}
 
-at_not : {e : ℕ} {A : Type 0} → Nothing ≡ At e → A
-at_not h = let z : ◌≡◌ {A = ℕ} 0 1 = cc in absurd (omega arith)
+pub true_false : {A : Type 0} → true ≡ false → A
+true_false h = absurd (cc)
 
-at_same : {e d : ℕ} → At e ≡ At d → e ≡ d
+at_not : {e : ℕ} {A : Type 0} → ◌≡◌ {A = Option ℕ} None (Some e) → A
+at_not h = absurd (cc)
+
+at_same : {e d : ℕ} → ◌≡◌ {A = Option ℕ} (Some e) (Some d) → e ≡ d
 at_same h = cc
 
-is_not : {v e : ℕ} {A : Type 0} → N.Nothing ≡ N.Is v e → A
-is_not h = let z : ◌≡◌ {A = ℕ} 0 1 = cc in absurd (omega arith)
+is_not : {v e : ℕ} {A : Type 0} → ◌≡◌ {A = Option (ℕ × ℕ)} None (Some (v, e)) → A
+is_not h = absurd (cc)
 
-is_same : {v e w d : ℕ} → N.Is v e ≡ N.Is w d → (v ≡ w) × (e ≡ d)
-is_same h = (cc, cc)
+is_same : {v e w d : ℕ} → ◌≡◌ {A = Option (ℕ × ℕ)} (Some (v, e)) (Some (w, d)) → (v ≡ w) × (e ≡ d)
+is_same {v} {e} {w} {d} h = some_pair_parts v w e d h
 
-pub stands_not : {o : Read (Unit {0})} {text : List ℕ} {from : ℕ} → o ≡ broken → Stands o text from Nothing
+pub stands_not : {o : Read (Unit {0})} {text : List ℕ} {from : ℕ} → o ≡ broken → Stands o text from None
 stands_not h = record { found = λ e q. at_not q; reached = λ e q. at_not q; nothing = λ q. h }
 
-pub stands_at : {o : Read (Unit {0})} {text : List ℕ} {from e : ℕ} → o ≡ done tt (drop e text) → from ≤ e → e ≤ length text → Stands o text from (At e)
+pub stands_at : {o : Read (Unit {0})} {text : List ℕ} {from e : ℕ} → o ≡ done tt (drop e text) → from ≤ e → e ≤ length text → Stands o text from (Some e)
 stands_at {o} {text} {from} {e} h i j = record {
   found = λ d q. h ∙ ap (λ (n : ℕ). done tt (drop n text)) (at_same q);
   reached = λ d q. let z = at_same q in record { past = omega arith; inside = omega arith };
   nothing = λ q. at_not (sym q);
 }
 
-pub numbers_not : {o : Read ℕ} {text : List ℕ} {from : ℕ} → NoNumber o → Numbers o text from N.Nothing
+pub numbers_not : {o : Read ℕ} {text : List ℕ} {from : ℕ} → NoNumber o → Numbers o text from None
 numbers_not h = record { found = λ v e q. is_not q; small = λ v e q. is_not q; reached = λ v e q. is_not q; nothing = λ q. h }
 
-pub numbers_is : {o : Read ℕ} {text : List ℕ} {from v e : ℕ} → o ≡ done v (drop e text) → v < 65536 → from ≤ e → e ≤ length text → Numbers o text from (N.Is v e)
+pub numbers_is : {o : Read ℕ} {text : List ℕ} {from v e : ℕ} → o ≡ done v (drop e text) → v < 65536 → from ≤ e → e ≤ length text → Numbers o text from (Some (v, e))
 numbers_is {o} {text} {from} {v} {e} h s i j = record {
   found = λ w d q. let z = is_same q in h ∙ (ap (λ (n : ℕ). done n (drop e text)) z.0 ∙ ap (λ (n : ℕ). done w (drop n text)) z.1);
   small = λ w d q. let z = is_same q in omega (arith, z.0);
@@ -60,11 +69,11 @@ numbers_is {o} {text} {from} {v} {e} h s i j = record {
   nothing = λ q. is_not (sym q);
 }
 
-pub tokens_not : {o : Read Code} {text : List ℕ} {from : ℕ} → o ≡ broken → Tokens o text from N.Nothing
+pub tokens_not : {o : Read Code} {text : List ℕ} {from : ℕ} → o ≡ broken → Tokens o text from None
 tokens_not h = record { found = λ v e q. is_not q; small = λ v e q. is_not q; reached = λ v e q. is_not q; nothing = λ q. h }
 
 pub tokens_is : {o : Read Code} {text : List ℕ} {from v e : ℕ} → o ≡ done (token v) (drop e text) → v < 65536 → from ≤ e → e ≤ length text
-    → Tokens o text from (N.Is v e)
+    → Tokens o text from (Some (v, e))
 tokens_is {o} {text} {from} {v} {e} h s i j = record {
   found = λ w d q. let z = is_same q in h ∙ (ap (λ (n : ℕ). done (token n) (drop e text)) z.0 ∙ ap (λ (n : ℕ). done (token w) (drop n text)) z.1);
   small = λ w d q. let z = is_same q in omega (arith, z.0);
@@ -79,36 +88,42 @@ word_cut [] s h = absurd (omega arith)
 word_cut (w ∷ ws) [] h = refl
 word_cut (w ∷ ws) (b ∷ s) h = by_test (eqb b w) (λ e. let i = word_cut ws s (omega arith) in cc) (λ e. cc)
 
-module _ (w text : List ℕ) (at : ℕ) (inside : at ≤ length text) where
-  module _ (i : ℕ) (going : read_word w (drop at text) ≡ read_word (drop i w) (drop (at + i) text)) where
-    module _ (more : i < length w) (long : length w ≤ length text - at) where
-      there : at + i < length text
-      there = omega arith
+-- A text that is given stands there where its bytes do.
+word_taken : (w s : List ℕ) → take (length w) s ≡ w → read_word w s ≡ done tt (drop (length w) s)
+word_taken w s e =
+    let z : s ≡ w ++ drop (length w) s = sym (take-append-drop (length w) s) ∙ ap (λ (t : List ℕ). t ++ drop (length w) s) e in
+    ap (read_word w) z ∙ word_round w (drop (length w) s)
 
-      next : at + i + 1 ≡ at + (i + 1)
-      next = omega arith
+word_other : (w s : List ℕ) → (take (length w) s ≡ w → ⊥) → read_word w s ≡ broken
+word_other w s h = go (read_word w s) refl
+  where
+    go : (o : Read (Unit {0})) → read_word w s ≡ o → o ≡ broken
+    go (done u r) e = absurd (h (ap (take (length w)) (word_sound w s r {u = u} e) ∙ take_at w r (length w) refl))
+    go deep e = absurd (word_shallow w s e)
+    go broken e = refl
 
-      pub word_differs : (get_or text (at + i) 0 ≡ get_or w i 0 → ⊥) → Stands (read_word w (drop at text)) text (at + length w) Nothing
-      unfolding read_word
-      word_differs h =
-          let d = ne_eqb (get_or text (at + i) 0) (get_or w i 0) h in
-          stands_not (going ∙ rw (front w i more, front text (at + i) there) (cc))
+-- word_at
+module _ (w text : List ℕ) (at : ℕ) {r : Bool} (er : r ≡ pointwise eqb w (take (length w) (take (length text - at) (drop at text)))) where
+  decided : Decides r (w ≡ take (length w) (drop at text))
+  decided =
+      let z : take (length text - at) (drop at text) ≡ drop at text = take_all (length text - at) (drop at text) (omega (arith, length-drop at text)) in
+      slice_eq-Decides Decides-eqb w (take (length w) (drop at text)) r (rw z at er)
 
-      pub word_again : get_or text (at + i) 0 ≡ get_or w i 0 → read_word w (drop at text) ≡ read_word (drop (i + 1) w) (drop (at + (i + 1)) text)
-      unfolding read_word
-      word_again h =
-          let d = eq-eqb (get_or text (at + i) 0) (get_or w i 0) h in
-          going ∙ rw (front w i more, front text (at + i) there, ← next) (cc)
+  pub word_there : at ≤ length text → (r ≡ true → length w ≤ length (take (length text - at) (drop at text))) → r ≡ true
+      → Stands (read_word w (drop at text)) text (at + length w) (Some (at + length w))
+  word_there inside bound h =
+      let z = bound h in
+      stands_at
+      (word_taken w (drop at text) (sym (decided.0 h)) ∙ ap (done tt) (drop-drop (length w) at text))
+      (omega arith) (omega (arith, z, length-take (length text - at) (drop at text)))
 
--- is_digit
-module _ (b : ℕ) where
-  pub digit_below : b < 48 → false ≡ is_digit b
-  unfolding is_digit
-  digit_below h = cc (lt-leb 48 b h)
+  pub word_not : r ≡ false → Stands (read_word w (drop at text)) text (at + length w) None
+  word_not h = stands_not (word_other w (drop at text) (λ e. true_false (sym (decided.1 (sym e)) ∙ h)))
 
-  pub digit_rest : {x : Bool} → 48 ≤ b → x ≡ leb b 57 → x ≡ is_digit b
-  unfolding is_digit
-  digit_rest h e = cc (le-leb 48 b h)
+-- A digit, as it is told.
+pub digit_is : (b : ℕ) {x : Bool} → x ≡ is_ascii_digit b → x ≡ is_digit b
+unfolding is_digit
+digit_is b e = e
 
 -- number_at
 no_more : (s : List ℕ) (n : ℕ) → 65536 ≤ n → NoNumber (read_digits n s)
@@ -120,17 +135,17 @@ no_more (b ∷ s) n h =
     (λ e. let z : done n (b ∷ s) ≡ read_digits n (b ∷ s) = cc in rw (← z) h)
 
 module _ (text : List ℕ) (at : ℕ) where
-  pub number_end : length text ≤ at → Numbers (read_number (drop at text)) text at N.Nothing
+  pub number_end : length text ≤ at → Numbers (read_number (drop at text)) text at None
   unfolding read_number
   number_end h = let z : broken ≡ read_number (drop at text) = cc (drop_of_length-le text {i = at} h) in numbers_not (rw (← z) tt)
 
   module _ (there : at < length text) where
-    pub number_zero : get_or text at 0 ≡ 48 → Numbers (read_number (drop at text)) text at (N.Is 0 (at + 1))
+    pub number_zero : get_or text at 0 ≡ 48 → Numbers (read_number (drop at text)) text at (Some (0, at + 1))
     unfolding read_number
     number_zero h = numbers_is (cc (front text at there)) (omega arith) (omega arith) (omega arith)
 
     module _ {x : Bool} (nonzero : get_or text at 0 ≡ 48 → ⊥) (ex : x ≡ is_digit (get_or text at 0)) where
-      pub number_other : x ≡ false → Numbers (read_number (drop at text)) text at N.Nothing
+      pub number_other : x ≡ false → Numbers (read_number (drop at text)) text at None
       unfolding read_number
       number_other h =
           let z : broken ≡ read_number (drop at text) = cc (front text at there, ne_eqb (get_or text at 0) 48 nonzero) in
@@ -139,47 +154,45 @@ module _ (text : List ℕ) (at : ℕ) where
       pub first_range : x ≡ true → (48 ≤ get_or text at 0) × (get_or text at 0 ≤ 57)
       first_range h = digit_range (get_or text at 0) (sym ex ∙ h)
 
-      pub number_start : {b : ℕ} → x ≡ true → b ≡ get_or text at 0 → read_number (drop at text) ≡ read_digits (b - 48) (drop (at + 1) text)
+      pub number_start : {v : ℕ} → x ≡ true → v ≡ get_or text at 0 - 48 → read_number (drop at text) ≡ read_digits v (drop (at + 1) text)
       unfolding read_number
       number_start h e = cc (front text at there, ne_eqb (get_or text at 0) 48 nonzero)
 
   module _ (value to : ℕ) (going : read_number (drop at text) ≡ read_digits value (drop to text)) (small : value < 65536) (past : at ≤ to) where
-    pub number_last : to ≤ length text → length text ≤ to → Numbers (read_number (drop at text)) text at (N.Is value to)
+    pub number_last : {e : ℕ} → to ≡ e → to ≡ length text → Numbers (read_number (drop at text)) text at (Some (value, e))
     unfolding read_digits
-    number_last i h =
-        let z = drop_of_length-le text {i = to} h in
-        numbers_is (going ∙ (ap (read_digits value) z ∙ ap (done value) (sym z))) small past i
+    number_last {e} i h =
+        let z = drop_of_length-le text {i = to} (omega (arith, h)) in
+        rw (← i) (numbers_is (going ∙ (ap (read_digits value) z ∙ ap (done value) (sym z))) small past (omega (arith, h)))
 
     module _ (there : to < length text) {x : Bool} (ex : x ≡ is_digit (get_or text to 0)) where
-      pub number_stops : x ≡ false → Numbers (read_number (drop at text)) text at (N.Is value to)
+      pub number_stops : x ≡ false → Numbers (read_number (drop at text)) text at (Some (value, to))
       unfolding read_digits
       number_stops h =
           let f = front text to there in
           let z : read_digits value (drop to text) ≡ done value (drop to text) = rw f (cc) in
           numbers_is (going ∙ z) small past (omega arith)
 
-      pub next_range : x ≡ true → (48 ≤ get_or text to 0) × (get_or text to 0 ≤ 57)
-      next_range h = digit_range (get_or text to 0) (sym ex ∙ h)
-
-      pub number_again : {b : ℕ} → x ≡ true → b ≡ get_or text to 0 → read_number (drop at text) ≡ read_digits (value * 10 + (b - 48)) (drop (to + 1) text)
+      pub number_again : {d : ℕ} → x ≡ true → d ≡ get_or text to 0 - 48 → read_number (drop at text) ≡ read_digits (value * 10 + d) (drop (to + 1) text)
       unfolding read_digits
       number_again h e = going ∙ cc (front text to there)
 
-      pub number_on : {b : ℕ} (j : ℕ) → x ≡ true → b ≡ get_or text to 0 → to + 1 ≡ j → read_number (drop at text) ≡ read_digits (value * 10 + (b - 48)) (drop j text)
-      number_on {b} j h e f = number_again h e ∙ ap (λ (n : ℕ). read_digits (value * 10 + (b - 48)) (drop n text)) f
-
-      pub number_large : {b : ℕ} → x ≡ true → b ≡ get_or text to 0 → 65535 < value * 10 + (b - 48) → Numbers (read_number (drop at text)) text at N.Nothing
-      number_large {b} h e g =
+      pub number_large : {d : ℕ} → x ≡ true → d ≡ get_or text to 0 - 48 → 65535 < value * 10 + d → Numbers (read_number (drop at text)) text at None
+      number_large {d} h e g =
           let z = number_again h e in
-          numbers_not (rw z (no_more (drop (to + 1) text) (value * 10 + (b - 48)) (omega arith)))
+          numbers_not (rw z (no_more (drop (to + 1) text) (value * 10 + d) (omega arith)))
+
+-- Behind each digit the number has another power of ten: it is too large where it has six.
+pub next_power : (n v d : ℕ) → 10 ^ n ≤ v → 10 ^ suc n ≤ v * 10 + d
+next_power n v d h = let e = pow-suc 10 n in omega arith
+
+pub six_digits : {A : Type 0} (n v : ℕ) → 5 ≤ n → 10 ^ n ≤ v → v < 65536 → A
+six_digits n v h i j = let z : 10 ^ 5 ≤ 10 ^ n = pow-le-pow_right (zero-lt-suc 9) h in absurd (omega arith)
 
 -- A number of one digit, and what is none.
-pub true_false : {A : Type 0} → true ≡ false → A
-true_false h = let z : ◌≡◌ {A = ℕ} 0 1 = cc in absurd (omega arith)
-
 module _ (text : List ℕ) (at : ℕ) where
   pub number_one : at + 1 < length text → is_digit (get_or text at 0) ≡ true → is_digit (get_or text (at + 1) 0) ≡ false
-      → Numbers (read_number (drop at text)) text at (N.Is (get_or text at 0 - 48) (at + 1))
+      → Numbers (read_number (drop at text)) text at (Some (get_or text at 0 - 48, at + 1))
   number_one more first second =
       let w = digit_range (get_or text at 0) first in
       by_test (eqb (get_or text at 0) 48)
@@ -188,7 +201,7 @@ module _ (text : List ℕ) (at : ℕ) where
       number_stops text at (get_or text at 0 - 48) (at + 1) (number_start text at (omega arith) {x = true} (eqb-false (get_or text at 0) 48 t) (sym first) refl refl)
       (omega (arith, w.1)) (omega arith) more refl second)
 
-  pub number_none : at < length text → is_digit (get_or text at 0) ≡ false → Numbers (read_number (drop at text)) text at N.Nothing
+  pub number_none : at < length text → is_digit (get_or text at 0) ≡ false → Numbers (read_number (drop at text)) text at None
   unfolding is_digit
   number_none more h = number_other text at more (λ e. true_false (sym (ap is_digit e) ∙ h)) refl h
 
@@ -197,14 +210,14 @@ unfolding is_digit
 end_no_digit e = ap is_digit e
 
 -- One reading behind another.
-module _ {B : Type 0} {o : Read (Unit {0})} {text : List ℕ} {from : ℕ} {x : Place} (first : Stands o text from x) (f : Unit {0} → List ℕ → Read B) where
-  then_nothing : x ≡ Nothing → and_then o f ≡ broken
+module _ {B : Type 0} {o : Read (Unit {0})} {text : List ℕ} {from : ℕ} {x : Option ℕ} (first : Stands o text from x) (f : Unit {0} → List ℕ → Read B) where
+  then_nothing : x ≡ None → and_then o f ≡ broken
   then_nothing h = ap (λ (q : Read (Unit {0})). and_then q f) (first.nothing h)
 
-  then_at : {e : ℕ} → x ≡ At e → and_then o f ≡ f tt (drop e text)
+  then_at : {e : ℕ} → x ≡ Some e → and_then o f ≡ f tt (drop e text)
   then_at {e} h = ap (λ (q : Read (Unit {0})). and_then q f) (first.found e h)
 
-pub number_at_lem : {B : Type 0} {o : Read ℕ} {text : List ℕ} {from v e : ℕ} {x : Number} → Numbers o text from x → (f : ℕ → List ℕ → Read B) → x ≡ N.Is v e
+pub number_at_lem : {B : Type 0} {o : Read ℕ} {text : List ℕ} {from v e : ℕ} {x : Option (ℕ × ℕ)} → Numbers o text from x → (f : ℕ → List ℕ → Read B) → x ≡ Some (v, e)
     → and_then o f ≡ f v (drop e text)
 number_at_lem {v = v} {e = e} w f h = ap (λ (q : Read ℕ). and_then q f) (w.found v e h)
 
@@ -215,133 +228,51 @@ no_number deep f h g = absurd h
 no_number broken f h g = refl
 
 -- Where a position was reached, it is in the text.
-pub at_inside : {o : Read (Unit {0})} {text : List ℕ} {from a : ℕ} {x : Place} → Stands o text from x → x ≡ At a → a ≤ length text
-at_inside {a = a} w h = (w.reached a h).inside
-
-pub is_inside : {o : Read ℕ} {text : List ℕ} {from v a : ℕ} {x : Number} → Numbers o text from x → x ≡ N.Is v a → a ≤ length text
+pub is_inside : {o : Read ℕ} {text : List ℕ} {from v a : ℕ} {x : Option (ℕ × ℕ)} → Numbers o text from x → x ≡ Some (v, a) → a ≤ length text
 is_inside {v = v} {a = a} w h = (w.reached v a h).inside
 
--- begin_at and closing_at, a byte at a time
-module _ (text : List ℕ) (c : ℕ) (w : List ℕ) (i : ℕ) (there : i < length text) where
-  byte_is : (j : ℕ) → get_or text i 0 ≡ c → i + 1 ≡ j → read_word (c ∷ w) (drop i text) ≡ read_word w (drop j text)
-  unfolding read_word
-  byte_is j h e = let d = eq-eqb (get_or text i 0) c h in rw (front text i there, ← e) (cc)
-
-  byte_not : (get_or text i 0 ≡ c → ⊥) → read_word (c ∷ w) (drop i text) ≡ broken
-  unfolding read_word
-  byte_not h = let d = ne_eqb (get_or text i 0) c h in rw (front text i there) (cc)
+-- A reading that is another, and a bound that is higher.
+stands_of : {o p : Read (Unit {0})} {text : List ℕ} {from before : ℕ} {r : Option ℕ} → p ≡ o → before ≤ from → Stands o text from r → Stands p text before r
+stands_of e h w = record {
+  found = λ d q. e ∙ w.found d q;
+  reached = λ d q. let z = w.reached d q in record { past = omega (arith, z.past); inside = z.inside };
+  nothing = λ q. e ∙ w.nothing q;
+}
 
 -- begin_at
-module _ (sign end k : ℕ) (text : List ℕ) (at : ℕ) (long : at + 5 ≤ length text) where
-  abbrev Begins : Place → Type 0
-  Begins r = Stands (read_word (begins sign k end) (drop at text)) text (at + 4) r
-
-  pub begin_first : (get_or text at 0 ≡ 60 → ⊥) → Begins Nothing
+module _ (sign end k : ℕ) (text : List ℕ) (at : ℕ) {r : Option ℕ} where
+  pub begin_digit : k < 10 → Stands (read_word (60 ∷ sign ∷ (48 + k) ∷ end ∷ []) (drop at text)) text (at + 4) r
+      → Stands (read_word (begins sign k end) (drop at text)) text (at + 4) r
   unfolding begins
-  begin_first h = stands_not (byte_not text 60 _ at (omega arith) h)
+  begin_digit small = stands_of (ap (λ (d : List ℕ). read_word (60 ∷ sign ∷ (d ++ (end ∷ []))) (drop at text)) (decimal_small k small)) (omega arith)
 
-  module _ (first : get_or text at 0 ≡ 60) where
-    pub begin_second : (get_or text (at + 1) 0 ≡ sign → ⊥) → Begins Nothing
-    unfolding begins
-    begin_second h = stands_not (byte_is text 60 _ at (omega arith) (at + 1) first refl ∙ byte_not text sign _ (at + 1) (omega arith) h)
+  pub begin_digits : 10 ≤ k → k < 100 → Stands (read_word (60 ∷ sign ∷ (48 + k / 10) ∷ (48 + k % 10) ∷ end ∷ []) (drop at text)) text (at + 5) r
+      → Stands (read_word (begins sign k end) (drop at text)) text (at + 4) r
+  unfolding begins
+  begin_digits large two = stands_of (ap (λ (d : List ℕ). read_word (60 ∷ sign ∷ (d ++ (end ∷ []))) (drop at text)) (decimal_two k large two)) (omega arith)
 
-    module _ (second : get_or text (at + 1) 0 ≡ sign) where
-      kind_left : {d : List ℕ} → decimal k ≡ d → read_word (begins sign k end) (drop at text) ≡ read_word (d ++ (end ∷ [])) (drop (at + 2) text)
-      unfolding begins
-      kind_left e =
-          byte_is text 60 _ at (omega arith) (at + 1) first refl
-          ∙ (byte_is text sign _ (at + 1) (omega arith) (at + 2) second (omega arith) ∙ ap (λ (d : List ℕ). read_word (d ++ (end ∷ [])) (drop (at + 2) text)) e)
-
-      module _ (small : k < 10) where
-        pub begin_digit : (get_or text (at + 2) 0 ≡ 48 + k → ⊥) → Begins Nothing
-        begin_digit h = stands_not (kind_left (decimal_small k small) ∙ byte_not text (48 + k) _ (at + 2) (omega arith) h)
-
-        module _ (third : get_or text (at + 2) 0 ≡ 48 + k) where
-          end_left : read_word (begins sign k end) (drop at text) ≡ read_word (end ∷ []) (drop (at + 3) text)
-          end_left = kind_left (decimal_small k small) ∙ byte_is text (48 + k) _ (at + 2) (omega arith) (at + 3) third (omega arith)
-
-          pub begin_end : (get_or text (at + 3) 0 ≡ end → ⊥) → Begins Nothing
-          begin_end h = stands_not (end_left ∙ byte_not text end [] (at + 3) (omega arith) h)
-
-          pub begin_done : get_or text (at + 3) 0 ≡ end → Begins (At (at + 4))
-          unfolding read_word
-          begin_done h = stands_at (end_left ∙ byte_is text end [] (at + 3) (omega arith) (at + 4) h (omega arith)) (omega arith) (omega arith)
-
-      module _ (large : 10 ≤ k) (two : k < 100) where
-        pub begin_tens : (get_or text (at + 2) 0 ≡ 48 + k / 10 → ⊥) → Begins Nothing
-        begin_tens h = stands_not (kind_left (decimal_two k large two) ∙ byte_not text (48 + k / 10) _ (at + 2) (omega arith) h)
-
-        module _ (third : get_or text (at + 2) 0 ≡ 48 + k / 10) where
-          ones_left : read_word (begins sign k end) (drop at text) ≡ read_word ((48 + k % 10) ∷ end ∷ []) (drop (at + 3) text)
-          ones_left = kind_left (decimal_two k large two) ∙ byte_is text (48 + k / 10) _ (at + 2) (omega arith) (at + 3) third (omega arith)
-
-          pub begin_ones : (get_or text (at + 3) 0 ≡ 48 + k % 10 → ⊥) → Begins Nothing
-          begin_ones h = stands_not (ones_left ∙ byte_not text (48 + k % 10) _ (at + 3) (omega arith) h)
-
-          module _ (fourth : get_or text (at + 3) 0 ≡ 48 + k % 10) where
-            last_left : read_word (begins sign k end) (drop at text) ≡ read_word (end ∷ []) (drop (at + 4) text)
-            last_left = ones_left ∙ byte_is text (48 + k % 10) _ (at + 3) (omega arith) (at + 4) fourth (omega arith)
-
-            pub begin_last : (get_or text (at + 4) 0 ≡ end → ⊥) → Begins Nothing
-            begin_last h = stands_not (last_left ∙ byte_not text end [] (at + 4) (omega arith) h)
-
-            pub begin_both : get_or text (at + 4) 0 ≡ end → Begins (At (at + 5))
-            unfolding read_word
-            begin_both h = stands_at (last_left ∙ byte_is text end [] (at + 4) (omega arith) (at + 5) h (omega arith)) (omega arith) (omega arith)
+-- A text that is given in two parts.
+word_parts : (v w s : List ℕ) → read_word (v ++ w) s ≡ (and_then (read_word v s) λ u r. read_word w r)
+unfolding read_word
+word_parts [] w s = refl
+word_parts (c ∷ v) w [] = refl
+word_parts (c ∷ v) w (b ∷ s) = by_test (eqb b c) (λ e. let i = word_parts v w s in cc) (λ e. cc)
 
 -- same_at
-module _ (text : List ℕ) (tag size at : ℕ) (some : 2 ≤ size) (known : tag + size ≤ length text + 1) where
-  abbrev Closes : Place → Type 0
-  Closes r = Stands (read_word (closes tag size text) (drop at text)) text at r
-
-  closes_long : length (closes tag size text) ≡ size
+module _ (text : List ℕ) (tag size at : ℕ) {x : Option ℕ} (first : Stands (read_word (60 ∷ 47 ∷ []) (drop at text)) text (at + 2) x) where
+  closes_parts : read_word (closes tag size text) (drop at text) ≡ (and_then (read_word (60 ∷ 47 ∷ []) (drop at text)) λ u r. read_word (take (size - 2) (drop (tag + 1) text)) r)
   unfolding closes
-  closes_long = omega (arith, length-take (size - 2) (drop (tag + 1) text), length-drop (tag + 1) text)
+  closes_parts = word_parts (60 ∷ 47 ∷ []) (take (size - 2) (drop (tag + 1) text)) (drop at text)
 
-  closes_at : (i : ℕ) → 2 ≤ i → i < size → get_or (closes tag size text) i 0 ≡ get_or text (tag + (i - 1)) 0
-  unfolding closes
-  closes_at zero g h = absurd (omega arith)
-  closes_at (suc zero) g h = absurd (omega arith)
-  closes_at (suc (suc i)) g h =
-      let j : tag + 1 + i ≡ tag + (suc (suc i) - 1) = omega arith in
-      get_or-take (size - 2) (drop (tag + 1) text) i 0 (omega arith) ∙ (get_or-drop (tag + 1) text i 0 ∙ ap (λ (n : ℕ). get_or text n 0) j)
+  pub closes_not : x ≡ None → Stands (read_word (closes tag size text) (drop at text)) text at None
+  closes_not h = stands_not (closes_parts ∙ then_nothing first (λ u r. read_word (take (size - 2) (drop (tag + 1) text)) r) h)
 
-  pub closes_short : length text - at < size → Closes Nothing
-  closes_short h = stands_not (word_cut (closes tag size text) (drop at text) (omega (arith, length-drop at text, closes_long)))
-
-  module _ (long : at + size ≤ length text) where
-    pub closes_first : (get_or text at 0 ≡ 60 → ⊥) → Closes Nothing
-    unfolding closes
-    closes_first h = stands_not (byte_not text 60 _ at (omega arith) h)
-
-    module _ (first : get_or text at 0 ≡ 60) where
-      pub closes_second : (get_or text (at + 1) 0 ≡ 47 → ⊥) → Closes Nothing
-      unfolding closes
-      closes_second h = stands_not (byte_is text 60 _ at (omega arith) (at + 1) first refl ∙ byte_not text 47 _ (at + 1) (omega arith) h)
-
-      pub closes_start : get_or text (at + 1) 0 ≡ 47 → read_word (closes tag size text) (drop at text) ≡ read_word (drop 2 (closes tag size text)) (drop (at + 2) text)
-      unfolding closes
-      closes_start h = byte_is text 60 _ at (omega arith) (at + 1) first refl ∙ byte_is text 47 _ (at + 1) (omega arith) (at + 2) h (omega arith)
-
-    module _ (i : ℕ) (going : read_word (closes tag size text) (drop at text) ≡ read_word (drop i (closes tag size text)) (drop (at + i) text)) (two : 2 ≤ i) where
-      inside : at ≤ length text
-      inside = omega arith
-
-      pub closes_differs : i < size → (get_or text (at + i) 0 ≡ get_or text (tag + (i - 1)) 0 → ⊥) → Closes Nothing
-      closes_differs g h = stands_not ((word_differs (closes tag size text) text at inside i going (omega (arith, closes_long)) (omega (arith, closes_long)) (λ e. h (e ∙ closes_at i two g))).nothing refl)
-
-      pub closes_again : i < size → get_or text (at + i) 0 ≡ get_or text (tag + (i - 1)) 0
-          → read_word (closes tag size text) (drop at text) ≡ read_word (drop (i + 1) (closes tag size text)) (drop (at + (i + 1)) text)
-      closes_again g h =
-          word_again (closes tag size text) text at inside i going (omega (arith, closes_long)) (omega (arith, closes_long)) (h ∙ sym (closes_at i two g))
-
-      pub closes_done : i ≤ size → size ≤ i → Closes (At (at + i))
-      unfolding read_word
-      closes_done g h =
-          stands_at (going ∙ ap (λ (u : List ℕ). read_word u (drop (at + i) text)) (drop_of_length-le (closes tag size text) {i = i} (omega (arith, closes_long)))) (omega arith) (omega arith)
+  pub closes_name : {name from : ℕ} {r : Option ℕ} → x ≡ Some name → at ≤ from → Stands (read_word (take (size - 2) (drop (tag + 1) text)) (drop name text)) text from r
+      → Stands (read_word (closes tag size text) (drop at text)) text at r
+  closes_name h = stands_of (closes_parts ∙ then_at first (λ u r. read_word (take (size - 2) (drop (tag + 1) text)) r) h)
 
 -- closing_at
-pub closes_usual : (text : List ℕ) (tag size at : ℕ) {r : Place} → size ≡ 7 → Stands (read_word (closes tag 7 text) (drop at text)) text at r
+pub closes_usual : (text : List ℕ) (tag size at : ℕ) {r : Option ℕ} → size ≡ 7 → Stands (read_word (closes tag 7 text) (drop at text)) text at r
     → Stands (read_word (closes tag size text) (drop at text)) text at r
 closes_usual text tag size at e w = rw e w
 
@@ -356,17 +287,14 @@ closes_tag text tag end w h i e =
 
 -- opening_at
 module _ (k : ℕ) (text : List ℕ) (at : ℕ) where
-  broken_number : {o : Read ℕ} → o ≡ broken → Numbers o text (at + 2) N.Nothing
+  broken_number : {o : Read ℕ} → o ≡ broken → Numbers o text (at + 2) None
   broken_number e = numbers_not (rw e tt)
 
-  pub opening_short : length text - at < 5 → Numbers (read_opening k (drop at text)) text (at + 2) N.Nothing
-  opening_short h = broken_number (opening_word k (drop at text) ∙ begins_cut 120 k 46 (drop at text) _ (omega (arith, length-drop at text)))
-
-  module _ {x : Place} (first : Stands (read_word (begins 120 k 46) (drop at text)) text (at + 4) x) where
-    pub opening_nothing : x ≡ Nothing → Numbers (read_opening k (drop at text)) text (at + 2) N.Nothing
+  module _ {x : Option ℕ} (first : Stands (read_word (begins 120 k 46) (drop at text)) text (at + 4) x) where
+    pub opening_nothing : x ≡ None → Numbers (read_opening k (drop at text)) text (at + 2) None
     opening_nothing h = broken_number (opening_word k (drop at text) ∙ then_nothing first (λ u r. ends r) h)
 
-    module _ {b : ℕ} (eb : x ≡ At b) {z : Number} (third : Numbers (read_number (drop b text)) text b z) where
+    module _ {b : ℕ} (eb : x ≡ Some b) {z : Option (ℕ × ℕ)} (third : Numbers (read_number (drop b text)) text b z) where
       so_far : read_opening k (drop at text) ≡ ends (drop b text)
       so_far = opening_word k (drop at text) ∙ then_at first (λ u r. ends r) eb
 
@@ -380,27 +308,23 @@ module _ (k : ℕ) (text : List ℕ) (at : ℕ) where
       large_number deep h = h
       large_number broken h = tt
 
-      pub opening_third : z ≡ N.Nothing → Numbers (read_opening k (drop at text)) text (at + 2) N.Nothing
+      pub opening_third : z ≡ None → Numbers (read_opening k (drop at text)) text (at + 2) None
       opening_third h = numbers_not (rw so_far (large_number (read_number (drop b text)) (third.nothing h)))
 
-      module _ {v c : ℕ} (ez : z ≡ N.Is v c) where
+      module _ {v c : ℕ} (ez : z ≡ Some (v, c)) where
         end_of : {q : Read (Unit {0})} → read_word tag_end (drop c text) ≡ q → read_opening k (drop at text) ≡ (and_then q λ u r. done v r)
         end_of e = so_far ∙ (number_at_lem third _ ez ∙ ap (λ (q : Read (Unit {0})). and_then q λ u r. done v r) e)
 
-        pub opening_end : length text ≤ c → Numbers (read_opening k (drop at text)) text (at + 2) N.Nothing
-        unfolding read_word
-        opening_end h = broken_number (end_of (ap (read_word tag_end) (drop_of_length-le text {i = c} h)))
+        module _ {from : ℕ} {q : Option ℕ} (fourth : Stands (read_word tag_end (drop c text)) text from q) where
+          pub opening_fourth : q ≡ None → Numbers (read_opening k (drop at text)) text (at + 2) None
+          opening_fourth h = broken_number (end_of (fourth.nothing h))
 
-        module _ (there : c < length text) where
-          pub opening_fourth : (get_or text c 0 ≡ 62 → ⊥) → Numbers (read_opening k (drop at text)) text (at + 2) N.Nothing
-          opening_fourth h = broken_number (end_of (byte_not text 62 [] c there h))
-
-          pub opening_done : get_or text c 0 ≡ 62 → Numbers (read_opening k (drop at text)) text (at + 2) (N.Is v (c + 1))
-          unfolding read_word
-          opening_done h =
+          pub opening_done : {e : ℕ} → q ≡ Some e → c ≤ from → Numbers (read_opening k (drop at text)) text (at + 2) (Some (v, e))
+          opening_done {e} h behind =
               let p = (first.reached b eb).past in
               let r = (third.reached v c ez).past in
-              numbers_is (end_of (byte_is text 62 [] c there (c + 1) h refl)) (third.small v c ez) (omega arith) (omega arith)
+              let t = fourth.reached e h in
+              numbers_is (end_of (fourth.found e h)) (third.small v c ez) (omega (arith, t.past)) t.inside
 
 -- token_at
 module _ (k : ℕ) (c : Range) (text : List ℕ) (at : ℕ) (short : c.high < 65536) where
@@ -413,9 +337,6 @@ module _ (k : ℕ) (c : Range) (text : List ℕ) (at : ℕ) (short : c.high < 65
   token_begins : read_token k c (drop at text) ≡ (and_then (read_word (begins 116 k 62) (drop at text)) λ u r. valued r)
   unfolding read_token begins token_tag
   token_begins = ap (λ (q : Read (Unit {0})). and_then q λ u r. valued r) (tag_word open_token k (drop at text))
-
-  pub token_short : length text - at < 5 → Tokens (read_token k c (drop at text)) text (at + 2) N.Nothing
-  token_short h = tokens_not (token_begins ∙ begins_cut 116 k 62 (drop at text) closes_token (omega (arith, length-drop at text)))
 
   out_of_range : (v : ℕ) → 65536 ≤ v → in_range c v ≡ false
   unfolding in_range
@@ -436,28 +357,31 @@ module _ (k : ℕ) (c : Range) (text : List ℕ) (at : ℕ) (short : c.high < 65
       go deep e = absurd (number_shallow s e)
       go broken e = refl
 
-  module _ {x : Place} (first : Stands (read_word (begins 116 k 62) (drop at text)) text (at + 4) x) where
-    pub token_nothing : x ≡ Nothing → Tokens (read_token k c (drop at text)) text (at + 2) N.Nothing
+  pub token_other : read_word (begins 116 k 62) (drop at text) ≡ broken → read_token k c (drop at text) ≡ broken
+  token_other h = token_begins ∙ ap (λ (q : Read (Unit {0})). and_then q λ u r. valued r) h
+
+  module _ {x : Option ℕ} (first : Stands (read_word (begins 116 k 62) (drop at text)) text (at + 4) x) where
+    pub token_nothing : x ≡ None → Tokens (read_token k c (drop at text)) text (at + 2) None
     token_nothing h = tokens_not (token_begins ∙ then_nothing first (λ u r. valued r) h)
 
-    pub token_cut : {a : ℕ} → x ≡ At a → length text - a < 6 → Tokens (read_token k c (drop at text)) text (at + 2) N.Nothing
+    pub token_cut : {a : ℕ} → x ≡ Some a → length text - a < 6 → Tokens (read_token k c (drop at text)) text (at + 2) None
     token_cut {a} ea h = tokens_not (token_begins ∙ (then_at first (λ u r. valued r) ea ∙ valued_cut (drop a text) (omega (arith, length-drop a text))))
 
-    module _ {a : ℕ} (ea : x ≡ At a) {y : Number} (second : Numbers (read_number (drop a text)) text a y) where
+    module _ {a : ℕ} (ea : x ≡ Some a) {y : Option (ℕ × ℕ)} (second : Numbers (read_number (drop a text)) text a y) where
       token_so_far : read_token k c (drop at text) ≡ valued (drop a text)
       token_so_far = token_begins ∙ then_at first (λ u r. valued r) ea
 
-      pub token_second : y ≡ N.Nothing → Tokens (read_token k c (drop at text)) text (at + 2) N.Nothing
+      pub token_second : y ≡ None → Tokens (read_token k c (drop at text)) text (at + 2) None
       token_second h = tokens_not (token_so_far ∙ no_number (read_number (drop a text)) closes_token (second.nothing h) (λ v r g. let d = out_of_range v g in cc))
 
-      module _ {v b : ℕ} (ey : y ≡ N.Is v b) {t : Bool} (et : t ≡ in_range c v) where
+      module _ {v b : ℕ} (ey : y ≡ Some (v, b)) {t : Bool} (et : t ≡ in_range c v) where
         valued_so_far : read_token k c (drop at text) ≡ closes_token v (drop b text)
         valued_so_far = token_so_far ∙ number_at_lem second closes_token ey
 
-        pub token_out : t ≡ false → Tokens (read_token k c (drop at text)) text (at + 2) N.Nothing
+        pub token_out : t ≡ false → Tokens (read_token k c (drop at text)) text (at + 2) None
         token_out h = let d : in_range c v ≡ false = sym et ∙ h in tokens_not (valued_so_far ∙ cc)
 
-        module _ (inside : t ≡ true) {z : Place} (third : Stands (read_word (closes at (a - at + 1) text) (drop b text)) text b z) where
+        module _ (inside : t ≡ true) {z : Option ℕ} (third : Stands (read_word (closes at (a - at + 1) text) (drop b text)) text b z) where
           same_tag : closes at (a - at + 1) text ≡ token_tag close_token k
           unfolding begins token_tag
           same_tag =
@@ -469,15 +393,19 @@ module _ (k : ℕ) (c : Range) (text : List ℕ) (at : ℕ) (short : c.high < 65
               let d : in_range c v ≡ true = sym et ∙ inside in
               valued_so_far ∙ ((cc) ∙ ap (λ (q : Read (Unit {0})). and_then q λ u r. done (token v) r) (tag_word close_token k (drop b text) ∙ ap (λ (w : List ℕ). read_word w (drop b text)) (sym same_tag)))
 
-          pub token_third : z ≡ Nothing → Tokens (read_token k c (drop at text)) text (at + 2) N.Nothing
+          pub token_third : z ≡ None → Tokens (read_token k c (drop at text)) text (at + 2) None
           token_third h = tokens_not (closing ∙ then_nothing third (λ u r. done (token v) r) h)
 
-          pub token_done : {d : ℕ} → z ≡ At d → Tokens (read_token k c (drop at text)) text (at + 2) (N.Is v d)
+          pub token_done : {d : ℕ} → z ≡ Some d → Tokens (read_token k c (drop at text)) text (at + 2) (Some (v, d))
           token_done {d} ez =
               let p = (first.reached a ea).past in
               let q = (second.reached v b ey).past in
               let s = third.reached d ez in
               tokens_is (closing ∙ then_at third (λ u r. done (token v) r) ez) (second.small v b ey) (omega (arith, s.past)) s.inside
+
+-- The bytes of a slice.
+pub bytes_of : (s : List ℕ) → ((i : ℕ) → Fits w8 (get_or s i 0)) → (i : ℕ) → get_or s i 0 < 256
+bytes_of s h i = omega (arith, h i)
 
 -- The values of a class in a file are below 65,536.
 pub class_high : (s : List ℕ) (p : ℕ) → ((i : ℕ) → get_or s i 0 < 256) → (class_range s p).high < 65536
@@ -489,18 +417,12 @@ module _ (class : ℕ) (text : List ℕ) (at : ℕ) where
   tells_not : ((class ≡ 0 → ⊥) → NoToken text at) → TellsToken class text at false
   tells_not f = record { some = λ h. true_false (sym h); none = λ h. f }
 
-  pub tells_short : length text - at < 5 → TellsToken class text at false
-  tells_short h = tells_not (λ some k c high. (token_short k c text at high h).nothing refl)
+  -- Another sign stands there.
+  other_sign : (k : ℕ) → (get_or text (at + 1) 0 ≡ 116 → ⊥) → read_word (begins 116 k 62) (drop at text) ≡ broken
+  unfolding begins
+  other_sign k h =
+      word_other (begins 116 k 62) (drop at text) (λ e.
+      h (sym (get_or-take (length (begins 116 k 62)) (drop at text) 1 0 (omega arith) ∙ get_or-drop at text 1 0) ∙ ap (λ (s : List ℕ). get_or s 1 0) e))
 
-  pub tells_other : 5 ≤ length text - at → (get_or text (at + 1) 0 ≡ 116 → ⊥) → TellsToken class text at false
-  tells_other long h =
-      let there : at + 5 ≤ length text = omega arith in
-      tells_not (λ some k c high. by_test (eqb (get_or text at 0) 60)
-      (λ t. (token_nothing k c text at high (begin_second 116 62 k text at there (eqb-true (get_or text at 0) 60 t) h) refl).nothing refl)
-      (λ t. (token_nothing k c text at high (begin_first 116 62 k text at there (eqb-false (get_or text at 0) 60 t)) refl).nothing refl))
-
-  pub tells_none : class ≡ 0 → TellsToken class text at false
-  tells_none h = tells_not (λ some. absurd (some h))
-
-  pub tells_some : (class ≡ 0 → ⊥) → TellsToken class text at true
-  tells_some h = record { some = λ e. h; none = λ e. true_false e }
+  pub tells_other : (get_or text (at + 1) 0 ≡ 116 → ⊥) → TellsToken class text at false
+  tells_other h = tells_not (λ some k c high. token_other k c text at high (other_sign k h))

@@ -1,9 +1,11 @@
 -- What a text holds, and a law for each return and loop turn of the functions of contents.rt.
 use Prim.Native.Nat.{ℕ, zero, suc, ◌+◌, ◌*◌, ◌/◌, ◌%◌, ◌-◌, ◌<◌, ◌≤◌}
 use mathlib.Core.Path.{◌≡◌, refl, sym, ap, ◌∙◌}
-use mathlib.Core.Bool.{Bool, true}
+use mathlib.Core.Bool.{Bool}
 use mathlib.Core.List.{List, [], ◌∷◌, ◌++◌, append_assoc, append-nil}
 use native.Mathlib.Omega.{arith}
+use Rattle.std.specs.Prelude.{Option, Some, None}
+use Rattle.std.proofs.lemmas.Option.{some_pair_parts}
 use lib.ListN.{length, get_or, drop, set, drop_of_length-le, length-append, length-drop, length-set}
 use lib.Seq.{get_or-drop, drop-drop, drop_at}
 use lib.Dec.{ltb, leb}
@@ -14,13 +16,9 @@ use Rattle.format_fields.proofs.Truth.{by_test}
 use Rattle.format_fields.proofs.Split.{front, byte_drop}
 use Rattle.format_fields.proofs.Splices.{nothing_spliced}
 use Rattle.tree_reader.specs.Syntax.{done}
-use Rattle.check_operations.specs.declared.put.Step.{Step}
-use Rattle.check_operations.specs.declared.put.Step.TheVariants.{To, Full}
 use Rattle.format_fields.specs.Decimal.{decimal}
 use Rattle.xml_text.specs.Text.{open_node, close_node, open_token, close_token, node_tag, token_tag}
 use Rattle.xml_text.specs.Import.{is_digit, read_number}
-use Rattle.xml_text.specs.declared.scan.Number.{Number}
-use Rattle.xml_text.specs.declared.scan.Number.TheVariants as N
 use Rattle.xml_text.specs.Inner.Scanning.{Numbers}
 use Rattle.xml_text.specs.Inner.Contents.{Contents, empty, closing, opening, value, signed, bytes_in, after, Behind, Written-to, Takes}
 use Rattle.format_fields.proofs.Decimal.{decimal_small, decimal_large, decimal_some}
@@ -29,19 +27,20 @@ use Rattle.xml_text.proofs.Round.{node_tag_lem, token_tag_lem, stop_end, stop_ta
 use Rattle.xml_text.proofs.Scans.{number_one, number_none, end_no_digit}
 use Rattle.xml_text.proofs.Stores.{written_then, set_stored, store_in}
 
-not_to : {e m : ℕ} {A : Type 0} → Full ≡ To e m → A
-not_to h = let z : ◌≡◌ {A = ℕ} 0 1 = cc in absurd (omega arith)
+not_to : {e m : ℕ} {A : Type 0} → ◌≡◌ {A = Option (ℕ × ℕ)} None (Some (e, m)) → A
+not_to h = absurd (cc)
 
-to_same : {e m d k : ℕ} → To e m ≡ To d k → (e ≡ d) × (m ≡ k)
-to_same h = (cc, cc)
+to_same : {e m d k : ℕ} → ◌≡◌ {A = Option (ℕ × ℕ)} (Some (e, m)) (Some (d, k)) → (e ≡ d) × (m ≡ k)
+to_same {e} {m} {d} {k} h = some_pair_parts e d m k h
 
 -- behind
 module _ (c : ℕ) (text : List ℕ) (at to : ℕ) (going : after c (drop to text) ≡ after c (drop at text)) (past : at ≤ to) where
-  pub behind_end : to ≤ length text → length text ≤ to → Behind c text at to
+  pub behind_end : to ≡ length text → Behind c text at (length text)
   unfolding after
-  behind_end i h =
-      let z = drop_of_length-le text {i = to} h in
-      record { left = z ∙ (ap (after c) (sym z) ∙ going); past = past; inside = i }
+  behind_end e =
+      let z : drop to text ≡ [] = drop_of_length-le text {i = to} (omega arith) in
+      let y : drop (length text) text ≡ [] = drop_of_length-le text {i = length text} (omega arith) in
+      record { left = y ∙ (ap (after c) (sym z) ∙ going); past = omega arith; inside = omega arith }
 
   module _ (there : to < length text) where
     pub behind_found : get_or text to 0 ≡ c → Behind c text at (to + 1)
@@ -205,14 +204,14 @@ value_of s v (value {r = r} {v = w} k n b e h) l i j = record {
 }
 
 -- The number that stands there is the one that is read.
-module _ (text : List ℕ) (a p : ℕ) (t : List ℕ) (there : drop a text ≡ decimal p ++ t) (stops : Stops t) {x : Number} (reads : Numbers (read_number (drop a text)) text a x) where
+module _ (text : List ℕ) (a p : ℕ) (t : List ℕ) (there : drop a text ≡ decimal p ++ t) (stops : Stops t) {x : Option (ℕ × ℕ)} (reads : Numbers (read_number (drop a text)) text a x) where
   is_there : read_number (drop a text) ≡ done p t
   is_there = ap read_number there ∙ number_round p t stops
 
-  number_not : {A : Type 0} → p < 65536 → x ≡ N.Nothing → A
+  number_not : {A : Type 0} → p < 65536 → x ≡ None → A
   number_not b h = let w : 65536 ≤ p = rw is_there at (reads.nothing h) in absurd (omega arith)
 
-  number_same : {v e : ℕ} → x ≡ N.Is v e → (v ≡ p) × (drop e text ≡ t)
+  number_same : {v e : ℕ} → x ≡ Some (v, e) → (v ≡ p) × (drop e text ≡ t)
   number_same {v} {e} h = same_done v p (drop e text) t (sym (reads.found v e h) ∙ is_there)
 
 tags_long : (k : ℕ) → length (token_tag close_token k) ≡ length (token_tag open_token k) + 1
@@ -230,14 +229,14 @@ module _ (text : List ℕ) (at : ℕ) where
   dropped : (c i : ℕ) → after c (drop (at + i) text) ≡ after c (drop i (drop at text))
   dropped c i = ap (after c) (sym (drop-drop i at text))
 
-  pub take_short : (o : List ℕ) (n : ℕ) → at < length text → length text - at < 6 → Takes text at o o n Full
+  pub take_short : (o : List ℕ) (n : ℕ) → at < length text → length text - at < 6 → Takes text at o o n None
   take_short o n h i = record {
     inside = λ e m q. not_to q;
     next = λ e m q. not_to q;
     full = λ q v c. let z = contents_long (drop at text) v c (omega (arith, length-drop at text)) in absurd (omega (arith, length-drop at text));
   }
 
-  pub take_closing : (o : List ℕ) (n : ℕ) {e : ℕ} → get_or text (at + 1) 0 ≡ 47 → n ≤ length o → Behind 62 text (at + 6) e → Takes text at o o n (To e n)
+  pub take_closing : (o : List ℕ) (n : ℕ) {e : ℕ} → get_or text (at + 1) 0 ≡ 47 → n ≤ length o → Behind 62 text (at + 6) e → Takes text at o o n (Some (e, n))
   take_closing o n {e} h i b = record {
     inside = λ d m q. let w = to_same q in (omega (arith, w.0, b.past), omega (arith, w.0, b.inside), omega (arith, w.1));
     next = λ d m q v c r.
@@ -258,18 +257,18 @@ module _ (text : List ℕ) (at : ℕ) where
     named : (v : List ℕ) → Contents (drop at text) v → Name (drop at text) v
     named v c = name_of (drop at text) v c (second_at sign)
 
-    pub name_full : n ≤ length o → length o - n < 1 → Takes text at o o n Full
+    pub name_full : n ≤ length o → length o - n < 1 → Takes text at o o n None
     name_full i h = record {
       inside = λ e m q. not_to q;
       next = λ e m q. not_to q;
       full = λ q v c. let w = ap length (named v c).parts in omega (arith, w);
     }
 
-    module _ {a : ℕ} (point : Behind 46 text (at + 3) a) {x : Number} (reads : Numbers (read_number (drop a text)) text a x) where
+    module _ {a : ℕ} (point : Behind 46 text (at + 3) a) {x : Option (ℕ × ℕ)} (reads : Numbers (read_number (drop a text)) text a x) where
       name_there : (v : List ℕ) (c : Contents (drop at text) v) → drop a text ≡ decimal (named v c).name ++ (62 ∷ (named v c).rest)
       name_there v c = point.left ∙ (dropped 46 3 ∙ (named v c).there)
 
-      pub name_nothing : x ≡ N.Nothing → Takes text at o o n Full
+      pub name_nothing : x ≡ None → Takes text at o o n None
       name_nothing h = record {
         inside = λ e m q. not_to q;
         next = λ e m q. not_to q;
@@ -278,18 +277,18 @@ module _ (text : List ℕ) (at : ℕ) where
             number_not text a w.name (62 ∷ w.rest) (name_there v c) (stop_end w.rest) reads (omega (arith, w.byte)) h;
       }
 
-      module _ {p b : ℕ} (ex : x ≡ N.Is p b) where
+      module _ {p b : ℕ} (ex : x ≡ Some (p, b)) where
         name_same : (v : List ℕ) (c : Contents (drop at text) v) → (p ≡ (named v c).name) × (drop b text ≡ 62 ∷ (named v c).rest)
         name_same v c = number_same text a (named v c).name (62 ∷ (named v c).rest) (name_there v c) (stop_end (named v c).rest) reads ex
 
-        pub name_cut : length text ≤ b → Takes text at o o n Full
+        pub name_cut : length text ≤ b → Takes text at o o n None
         name_cut h = record {
           inside = λ e m q. not_to q;
           next = λ e m q. not_to q;
           full = λ q v c. let w = ap length (name_same v c).1 in absurd (omega (arith, length-drop b text, w));
         }
 
-        pub name_done : {u : ℕ} → b < length text → n < length o → u ≡ p % 256 → Takes text at o (set o n u) n (To (b + 1) (n + 1))
+        pub name_done : {u : ℕ} → b < length text → n < length o → u ≡ p % 256 → Takes text at o (set o n u) n (Some (b + 1, n + 1))
         name_done {u} there h eu = record {
           inside = λ d m q.
               let w = to_same q in
@@ -313,7 +312,7 @@ module _ (text : List ℕ) (at : ℕ) where
 
     -- A name of one digit.
     name_digit : {a u : ℕ} → Behind 46 text (at + 3) a → a + 1 < length text → n < length o → get_or text (a + 1) 0 ≡ 62 → u ≡ get_or text a 0 % 16
-        → Takes text at o (set o n u) n (To (a + 1 + 1) (n + 1))
+        → Takes text at o (set o n u) n (Some (a + 1 + 1, n + 1))
     name_digit {a} {u} point there h end eu =
         by_test (is_digit (get_or text a 0))
         (λ t.
@@ -326,13 +325,13 @@ module _ (text : List ℕ) (at : ℕ) where
         })
 
     pub name_short : {u : ℕ} → at + 6 ≤ length text → n < length o → get_or text (at + 3) 0 ≡ 46 → get_or text (at + 5) 0 ≡ 62 → u ≡ get_or text (at + 4) 0 % 16
-        → Takes text at o (set o n u) n (To (at + 6) (n + 1))
+        → Takes text at o (set o n u) n (Some (at + 6, n + 1))
     name_short {u} long h point end eu =
         let za : at + 3 + 1 ≡ at + 4 = omega arith in
         let zb : at + 4 + 1 ≡ at + 5 = omega arith in
         let zc : at + 4 + 1 + 1 ≡ at + 6 = omega arith in
         let b : Behind 46 text (at + 3) (at + 3 + 1) = behind_found 46 text (at + 3) (at + 3) refl (omega arith) (omega arith) point in
-        let d : Takes text at o (set o n u) n (To (at + 4 + 1 + 1) (n + 1)) = name_digit (rw za at b) (omega arith) h (rw zb end) eu in
+        let d : Takes text at o (set o n u) n (Some (at + 4 + 1 + 1, n + 1)) = name_digit (rw za at b) (omega arith) h (rw zb end) eu in
         rw zc at d
 
   -- take_value
@@ -340,7 +339,7 @@ module _ (text : List ℕ) (at : ℕ) where
     valued : (v : List ℕ) → Contents (drop at text) v → Value (drop at text) v
     valued v c = value_of (drop at text) v c (omega (arith, length-drop at text)) (second_not not-shut) (second_not not-name)
 
-    pub value_full : n ≤ length o → length o - n < 2 → Takes text at o o n Full
+    pub value_full : n ≤ length o → length o - n < 2 → Takes text at o o n None
     value_full i h = record {
       inside = λ e m q. not_to q;
       next = λ e m q. not_to q;
@@ -351,7 +350,7 @@ module _ (text : List ℕ) (at : ℕ) where
       value_there : (v : List ℕ) (c : Contents (drop at text) v) → drop a text ≡ decimal (valued v c).number ++ (token_tag close_token (valued v c).kind ++ (valued v c).rest)
       value_there v c = point.left ∙ (dropped 62 3 ∙ (valued v c).there)
 
-      pub value_cut : length text - a < 6 → Takes text at o o n Full
+      pub value_cut : length text - a < 6 → Takes text at o o n None
       value_cut h = record {
         inside = λ e m q. not_to q;
         next = λ e m q. not_to q;
@@ -371,8 +370,8 @@ module _ (text : List ℕ) (at : ℕ) where
             ));
       }
 
-    module _ {a : ℕ} (point : Behind 62 text (at + 3) a) {x : Number} (reads : Numbers (read_number (drop a text)) text a x) where
-      pub value_nothing : x ≡ N.Nothing → Takes text at o o n Full
+    module _ {a : ℕ} (point : Behind 62 text (at + 3) a) {x : Option (ℕ × ℕ)} (reads : Numbers (read_number (drop a text)) text a x) where
+      pub value_nothing : x ≡ None → Takes text at o o n None
       value_nothing h = record {
         inside = λ e m q. not_to q;
         next = λ e m q. not_to q;
@@ -381,7 +380,7 @@ module _ (text : List ℕ) (at : ℕ) where
             number_not text a w.number _ (value_there point v c) (stop_tag w.kind w.rest) reads w.small h;
       }
 
-      module _ {p b : ℕ} (ex : x ≡ N.Is p b) where
+      module _ {p b : ℕ} (ex : x ≡ Some (p, b)) where
         value_same : (v : List ℕ) (c : Contents (drop at text) v) → (p ≡ (valued v c).number) × (drop b text ≡ token_tag close_token (valued v c).kind ++ (valued v c).rest)
         value_same v c = number_same text a (valued v c).number _ (value_there point v c) (stop_tag (valued v c).kind (valued v c).rest) reads ex
 
@@ -392,7 +391,7 @@ module _ (text : List ℕ) (at : ℕ) where
             let k = ap length (value_there point v c) in
             omega (arith, y.long, k, length-drop at text, length-drop a text, point.past, point.inside, tags_long y.kind, there)
 
-        pub value_short : length text - b < a - at + 1 → Takes text at o o n Full
+        pub value_short : length text - b < a - at + 1 → Takes text at o o n None
         value_short h = record {
           inside = λ e m q. not_to q;
           next = λ e m q. not_to q;
@@ -403,7 +402,7 @@ module _ (text : List ℕ) (at : ℕ) where
         }
 
         pub value_done : {u t : ℕ} → a - at + 1 ≤ length text - b → b ≤ length text → n + 2 ≤ length o → u ≡ p / 256 → t ≡ p % 256
-            → Takes text at o (set (set o n u) (n + 1) t) n (To (b + (a - at + 1)) (n + 2))
+            → Takes text at o (set (set o n u) (n + 1) t) n (Some (b + (a - at + 1), n + 2))
         value_done {u} {t} g i h eu et = record {
           inside = λ d m q.
               let w = to_same q in
@@ -431,7 +430,7 @@ module _ (text : List ℕ) (at : ℕ) where
         }
 
 -- There is room for the second byte of a value.
-pub second_in : (o : List ℕ) (n : ℕ) {x : Number} {v e : ℕ} → x ≡ N.Is v e → 2 ≤ length o - n → n + 1 < length (set o n (v / 256))
+pub second_in : (o : List ℕ) (n : ℕ) {x : Option (ℕ × ℕ)} {v e : ℕ} → x ≡ Some (v, e) → 2 ≤ length o - n → n + 1 < length (set o n (v / 256))
 second_in o n {v = v} q h = omega (arith, length-set o n (v / 256))
 
 -- write_contents
@@ -446,14 +445,14 @@ module _ (text o : List ℕ) where
         let z : v ≡ so_far.first = so_far.parts ∙ (ap (λ (u : List ℕ). so_far.first ++ u) e ∙ append-nil so_far.first) in
         (so_far.put.bytes ∙ ap (spliced o 0) (sym z), omega (arith, so_far.put.end, ap length z))
 
-    module _ {o₂ : List ℕ} {x : Step} (long : length o₁ ≡ length o) (step : Takes text at o₁ o₂ n x) where
+    module _ {o₂ : List ℕ} {x : Option (ℕ × ℕ)} (long : length o₁ ≡ length o) (step : Takes text at o₁ o₂ n x) where
       fits : n + length so_far.rest ≤ length o₁
       fits = omega (arith, so_far.put.end, ap length so_far.parts, length-append so_far.first so_far.rest)
 
-      pub taken_full : {A : Type 0} → x ≡ Full → A
+      pub taken_full : {A : Type 0} → x ≡ None → A
       taken_full h = let z = step.full h so_far.rest so_far.holds in let y = fits in absurd (omega arith)
 
-      pub taken_again : {e m : ℕ} → x ≡ To e m → Written-to v text o o₂ 0 e m
+      pub taken_again : {e m : ℕ} → x ≡ Some (e, m) → Written-to v text o o₂ 0 e m
       taken_again {e} {m} h =
           let w = step.next e m h so_far.rest so_far.holds fits in
           record {
@@ -509,10 +508,6 @@ module _ (text : List ℕ) (at : ℕ) (there : at < length text) where
         (holds_sign ∙ omega arith, omega arith)
 
 -- count
-pub count_again : (text : List ℕ) (at n r : ℕ) → n + bytes_in (drop at text) ≡ bytes_in text → bytes_in (drop at text) ≡ r + bytes_in (drop (at + 1) text)
-    → n + r + bytes_in (drop (at + 1) text) ≡ bytes_in text
-count_again text at n r h e = omega arith
-
 pub count_done : (text : List ℕ) (at n : ℕ) → n + bytes_in (drop at text) ≡ bytes_in text → length text ≤ at → n ≡ bytes_in text
 unfolding bytes_in
 count_done text at n h e = let z : bytes_in (drop at text) ≡ 0 = ap bytes_in (drop_of_length-le text {i = at} e) in omega arith
@@ -578,8 +573,8 @@ contents_small s v (value {r = r} {v = u} k n b e h) =
     )
 
 -- fits
-pub fits_short : (text : List ℕ) (room : ℕ) → length text / 5 ≤ room → (v : List ℕ) → Contents text v → true ≡ leb (length v) room
-fits_short text room h v c = let z = contents_small text v c in sym (le-leb (length v) room (omega arith))
+pub fits_short : (text : List ℕ) (room : ℕ) → length text / 5 ≤ room → (v : List ℕ) → Contents text v → leb (length text / 5) room ≡ leb (length v) room
+fits_short text room h v c = let z = contents_small text v c in le-leb _ room h ∙ sym (le-leb (length v) room (omega arith))
 
 pub fits_counted : (text : List ℕ) (room : ℕ) {n : ℕ} {x : Bool} → n ≡ bytes_in text → x ≡ leb n room → (v : List ℕ) → Contents text v → x ≡ leb (length v) room
 fits_counted text room e f v c = f ∙ ap (λ (m : ℕ). leb m room) (e ∙ contents_count text v c)

@@ -3,9 +3,8 @@ ghost use Rattle.std.specs.Prelude.{◌≡◌, true, List, ℕ, ◌+◌, ◌<◌
 ghost use Rattle.format_fields.specs.Inner.Writing.{spliced};
 ghost use Rattle.xml_text.specs.Inner.Contents.{Contents, bytes_in, Behind, Takes};
 
-use crate::scan::{Number, number_at, value_at};
+use crate::scan::{number_at, value_at};
 use crate::tags::{END, NODE, OPEN, POINT, SLASH, TOKEN};
-use check_operations::put::Step;
 
 // No tag is shorter than this.
 const SHORTEST: usize = 6;
@@ -15,30 +14,23 @@ fn bytes_at(text: &[u8], at: usize) -> usize
     requires { at < length text.now }
     ensures { (bytes_in (drop at text.now) ≡ result + bytes_in (drop (at + 1) text.now)) × (result ≤ 2) }
 {
-    if text[at] != OPEN {
+    if text[at] != OPEN || text.len() - at < 2 {
         return 0;
     }
-    if text.len() - at < 2 {
-        return 0;
+    match text[at + 1] {
+        NODE => 1,
+        TOKEN => 2,
+        _ => 0,
     }
-    if text[at + 1] == NODE {
-        return 1;
-    }
-    if text[at + 1] == TOKEN {
-        return 2;
-    }
-    0
 }
 
 // How many bytes the tree has whose export the text is.
 fn count(text: &[u8]) -> usize
     ensures { result ≡ bytes_in text.now }
 {
-    let mut at = 0;
     let mut n = 0;
-    while at < text.len() {
+    for at in 0..text.len() {
         n += bytes_at(text, at);
-        at += 1;
     }
     n
 }
@@ -47,10 +39,7 @@ fn count(text: &[u8]) -> usize
 pub fn has_room(text: &[u8], room: usize) -> bool
     ensures { (v : List ℕ) → Contents text.now v → result ≡ leb (length v) room }
 {
-    if text.len() / 5 <= room {
-        return true;
-    }
-    count(text) <= room
+    text.len() / 5 <= room || count(text) <= room
 }
 
 // The position behind the first such byte.
@@ -58,14 +47,12 @@ fn behind(byte: u8, text: &[u8], at: usize) -> usize
     requires { at ≤ length text.now }
     ensures { Behind byte text.now at result }
 {
-    let mut to = at;
-    while to < text.len() {
+    for to in at..text.len() {
         if text[to] == byte {
             return to + 1;
         }
-        to += 1;
     }
-    to
+    text.len()
 }
 
 // Whether the kind and the name in the opening tag of a production have one digit each.
@@ -73,73 +60,63 @@ fn is_short(text: &[u8], at: usize) -> bool
     requires { at + 6 ≤ length text.now }
     ensures { result ≡ true → (get_or text.now (at + 3) 0 ≡ 46) × (get_or text.now (at + 5) 0 ≡ 62) }
 {
-    if text[at + 3] != POINT {
-        return false;
-    }
-    if text[at + 5] != END {
-        return false;
-    }
-    true
+    text[at + 3] == POINT && text[at + 5] == END
 }
 
 // Writes the name in the opening tag of a production. Most often it is one digit, which ends at a known place.
-fn take_name(text: &[u8], at: usize, out: &mut [u8], n: usize) -> Step
+fn take_name(text: &[u8], at: usize, out: &mut [u8], n: usize) -> Option<(usize, usize)>
     requires { (at + 6 ≤ length text.now) × (get_or text.now (at + 1) 0 ≡ 120) × (n ≤ length out.old) }
     ensures { Takes text.now at out.old out.new n result }
 {
     if out.len() - n < 1 {
-        return Step::Full;
+        return None;
     }
     if is_short(text, at) {
         out[n] = text[at + 4] % 16;
-        return Step::To(at + 6, n + 1);
+        return Some((at + 6, n + 1));
     }
     let a = behind(POINT, text, at + 3);
-    let Number::Is(name, b) = number_at(text, a) else {
-        return Step::Full;
-    };
+    let (name, b) = number_at(text, a)?;
     if text.len() <= b {
-        return Step::Full;
+        return None;
     }
     out[n] = (name % 256) as u8;
-    Step::To(b + 1, n + 1)
+    Some((b + 1, n + 1))
 }
 
 // Writes the value of a token and passes both its tags: the closing tag is one byte longer than the opening tag.
-fn take_value(text: &[u8], at: usize, out: &mut [u8], n: usize) -> Step
+fn take_value(text: &[u8], at: usize, out: &mut [u8], n: usize) -> Option<(usize, usize)>
     requires { (at + 6 ≤ length text.now) × (get_or text.now (at + 1) 0 ≡ 47 → ⊥) × (get_or text.now (at + 1) 0 ≡ 120 → ⊥) × (n ≤ length out.old) }
     ensures { Takes text.now at out.old out.new n result }
 {
     if out.len() - n < 2 {
-        return Step::Full;
+        return None;
     }
     let a = behind(END, text, at + 3);
     if text.len() - a < 6 {
-        return Step::Full;
+        return None;
     }
-    let Number::Is(value, b) = value_at(text, a) else {
-        return Step::Full;
-    };
+    let (value, b) = value_at(text, a)?;
     let size = a - at + 1;
     if text.len() - b < size {
-        return Step::Full;
+        return None;
     }
     out[n] = (value / 256) as u8;
     out[n + 1] = (value % 256) as u8;
-    Step::To(b + size, n + 2)
+    Some((b + size, n + 2))
 }
 
 // Passes a closing tag, or writes what stands at a position.
-fn take(text: &[u8], at: usize, out: &mut [u8], n: usize) -> Step
+fn take(text: &[u8], at: usize, out: &mut [u8], n: usize) -> Option<(usize, usize)>
     requires { (at < length text.now) × (n ≤ length out.old) }
     ensures { Takes text.now at out.old out.new n result }
 {
     if text.len() - at < SHORTEST {
-        return Step::Full;
+        return None;
     }
     let sign = text[at + 1];
     if sign == SLASH {
-        return Step::To(behind(END, text, at + 6), n);
+        return Some((behind(END, text, at + 6), n));
     }
     if sign == NODE {
         return take_name(text, at, out, n);
@@ -155,7 +132,7 @@ pub fn write_contents(text: &[u8], out: &mut [u8]) -> usize
     let mut at = 0;
     let mut n = 0;
     while at < text.len() {
-        let Step::To(e, m) = take(text, at, out, n) else {
+        let Some((e, m)) = take(text, at, out, n) else {
             return n;
         };
         at = e;

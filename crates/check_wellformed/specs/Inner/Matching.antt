@@ -1,6 +1,6 @@
 -- Source productions and clauses side by side: both stand by rising key, so that where each production has its clauses, one
 -- for each number of its result, and there is no other, their keys are the same, one for one.
-use Rattle.std.specs.Prelude.{ℕ, ◌+◌, ◌*◌, ◌<◌, ◌≤◌, ◌≡◌, Bool, true, false, List, [], ◌++◌, map, length}
+use Rattle.std.specs.Prelude.{ℕ, Option, Some, None, ◌+◌, ◌*◌, ◌<◌, ◌≤◌, ◌≡◌, Bool, true, false, List, [], ◌++◌, map, length}
 use Rattle.format_fields.specs.Lists.{all, concat_map, same_numbers}
 use Rattle.format_fields.specs.Keyed.{rising_from, rising}
 use Rattle.format_fields.specs.Inner.Places.{places_from, places, key_at, order_at}
@@ -52,9 +52,10 @@ pub record Asked (b : List ℕ) (m kind p : ℕ) : Type 0 where
   pub inside : p ≤ length b
 
 -- From p on stand the clauses of the key, one for each number that the kind has in the items from m on, and they end at r;
--- r is past the end where one is missing.
-pub record Cleared (b : List ℕ) (m kind key p r : ℕ) : Type 0 where
-  pub missing : length b < r → (l : List ℕ) → same_numbers (clause_keys key (numbers_of (items_from b m) kind) ++ l) (orders_from b p) ≡ false
-  pub there : r ≤ length b → (l : List ℕ)
-      → same_numbers (clause_keys key (numbers_of (items_from b m) kind) ++ l) (orders_from b p) ≡ same_numbers l (orders_from b r)
-  pub whole : r ≤ length b → all (item_whole b) (places_from b r) ≡ true
+-- there is no r where one is missing.
+pub record Cleared (b : List ℕ) (m kind key p : ℕ) (r : Option ℕ) : Type 0 where
+  pub missing : r ≡ None → (l : List ℕ) → same_numbers (clause_keys key (numbers_of (items_from b m) kind) ++ l) (orders_from b p) ≡ false
+  pub there : (e : ℕ) → r ≡ Some e → (l : List ℕ)
+      → same_numbers (clause_keys key (numbers_of (items_from b m) kind) ++ l) (orders_from b p) ≡ same_numbers l (orders_from b e)
+  pub inside : (e : ℕ) → r ≡ Some e → e ≤ length b
+  pub whole : (e : ℕ) → r ≡ Some e → all (item_whole b) (places_from b e) ≡ true

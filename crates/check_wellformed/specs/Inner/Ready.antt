@@ -5,6 +5,7 @@ use Rattle.format_fields.specs.Inner.Places.{places}
 use Rattle.format_language.specs.LanguageFile.{entries_of}
 use Rattle.tree_reader.specs.Inner.Index.{put_all, index_length, Indexed}
 use Rattle.format_translation.specs.Translation.{Translation}
+use Rattle.check_wellformed.specs.declared.parts.Parts.{Parts}
 use Rattle.format_translation.specs.TranslationFile.{body_of, all_rising}
 use Rattle.format_translation.specs.Inner.ItemIndex.{Mapped}
 
@@ -30,3 +31,7 @@ pub record Ready (s t it b u : List ℕ) (f : Translation) : Type 0 where
   pub room : length u ≡ uses_room
   pub uses : Mapped u f.body
   pub rises : all_rising f ≡ true
+
+-- The parts are those of f.
+abbrev pub Holds : Parts → List ℕ → Translation → Type 0
+Holds p u f = Ready p.source.now p.target.now p.targets.now p.body.now u f

@@ -1,18 +1,17 @@
 -- The tests of "well formed" by place, looked up through tables and indexes.
 -- `proofs/Mappings.antt` and `proofs/Coded.antt` show that they are those of `well_formed`.
-use Rattle.std.specs.Prelude.{ℕ, ◌+◌, ◌-◌, ◌*◌, ◌<◌, ◌≤◌, ◌≡◌, Bool, true, false, cond, not, ◌&&◌, List, [], ◌∷◌, ◌++◌, length, get_or, set, take, eqb}
+use Rattle.std.specs.Prelude.{ℕ, zero, suc, Option, Some, None, ◌+◌, ◌-◌, ◌*◌, ◌<◌, ◌≤◌, ◌≡◌, Bool, true, false, cond, not, ◌&&◌, List, [], ◌∷◌, ◌++◌, length, get_or, set, take, eqb}
 use Rattle.std.specs.Bool.{beq}
 use Rattle.std.proofs.Math.Seq.{slice}
 use Rattle.format_fields.specs.Fields.{byte_at}
 use Rattle.format_fields.specs.Inner.Places.{field_end}
 use Rattle.format_language.specs.Language.{range_within}
 use Rattle.format_language.specs.Inner.Entries.{class_range}
-use Rattle.tree_reader.specs.declared.node.Read.{Read}
-use Rattle.tree_reader.specs.declared.node.Read.TheVariants.{End, Deep, Broken}
 use Rattle.tree_reader.specs.Inner.Positions.{uses_length}
 use Rattle.format_translation.specs.Translation.{clause}
 use Rattle.format_translation.specs.Inner.Items.{item_whole, item_at, is_clause_tag, code_start, clause_number}
-use Rattle.check_wellformed.specs.Inner.Ready.{uses_room}
+use Rattle.check_wellformed.specs.declared.parts.Parts.{Parts}
+use Rattle.check_wellformed.specs.Inner.Ready.{uses_room, index_of}
 
 -- The table of kinds with the kinds of a list marked in it.
 unfoldable pub mark_all : List Bool → List ℕ → List Bool
@@ -43,21 +42,34 @@ pub record MapsAt (b : List ℕ) (p : ℕ) : Type 0 where
 unfoldable pub reaches_at : List ℕ → List Bool → List Bool → ℕ → Bool
 reaches_at b marked reached p = get_or marked (byte_at b (p + 3)) false && get_or reached (byte_at b (field_end b p - 1)) false
 
--- The range of the class of s before `place` lies in that of the class of t before `goal`. There is no class at 0: none in s
--- asks for nothing, none in t contains nothing.
-unfoldable pub range_kept : List ℕ → ℕ → List ℕ → ℕ → Bool
-range_kept s place t goal =
-    cond (eqb place 0) true
-    (cond (eqb goal 0) false (range_within (class_range s (place - 1)) (class_range t (goal - 1))))
+-- The place before a number of an index, which has 0 where there is none.
+abbrev pub place_before : ℕ → Option ℕ
+place_before zero = None
+place_before (suc p) = Some p
+
+-- The range of the class of s at `place` lies in that of the class of t at `goal`: none in s asks for nothing, none in t
+-- contains nothing.
+unfoldable pub range_kept : List ℕ → Option ℕ → List ℕ → Option ℕ → Bool
+range_kept s None t goal = true
+range_kept s (Some p) t None = false
+range_kept s (Some p) t (Some q) = range_within (class_range s p) (class_range t q)
 
 -- The source of the mapping at p, if it is a class, maps to a class that contains its range.
 unfoldable pub kept_at : List ℕ → List ℕ → List ℕ → List ℕ → List ℕ → ℕ → Bool
-kept_at s is t it b p = range_kept s (get_or is (byte_at b (p + 3)) 0) t (get_or it (byte_at b (field_end b p - 1)) 0)
+kept_at s is t it b p =
+    range_kept s (place_before (get_or is (byte_at b (p + 3)) 0)) t (place_before (get_or it (byte_at b (field_end b p - 1)) 0))
 
 -- The mapping at p, if there is one, passes both tests.
 unfoldable pub fits_at : List ℕ → List ℕ → List ℕ → List ℕ → List ℕ → List Bool → List Bool → ℕ → Bool
 fits_at s is t it b marked reached p =
     cond (is_clause_tag (byte_at b p)) true (reaches_at b marked reached p && kept_at s is t it b p)
+
+-- These tests of the mapping at p of the parts.
+abbrev pub kept_in : Parts → ℕ → Bool
+kept_in r p = kept_at r.source.now (index_of r.source.now) r.target.now r.targets.now r.body.now p
+
+abbrev pub fits_in : Parts → List Bool → List Bool → ℕ → Bool
+fits_in r marked reached p = fits_at r.source.now (index_of r.source.now) r.target.now r.targets.now r.body.now marked reached p
 
 -- The field at p is a whole clause.
 unfoldable pub is_clause_at : List ℕ → ℕ → Bool
@@ -79,9 +91,3 @@ pub record Behind (u u' kinds : List ℕ) (r : ℕ) : Type 0 where
   pub fits : r ≤ uses_room
   pub room : length u' ≡ uses_room
   pub kept : take uses_length u' ≡ take uses_length u
-
--- What was read ends at n.
-abbrev pub ends_at : Read → ℕ → Bool
-ends_at (End e) n = eqb e n
-ends_at Deep n = false
-ends_at Broken n = false

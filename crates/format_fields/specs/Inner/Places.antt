@@ -1,6 +1,6 @@
 -- The fields of a file by their places, as the code walks over them.
 -- `proofs/Split.antt` shows that they are the fields of `fields_of`.
-use Rattle.std.specs.Prelude.{ℕ, zero, suc, ◌+◌, ◌*◌, ◌<◌, ◌≤◌, ◌≡◌, Bool, true, false, cond, ◌&&◌, List, [], ◌∷◌, ◌++◌, length, take, drop, ltb, leb, eqb}
+use Rattle.std.specs.Prelude.{ℕ, zero, suc, ◌+◌, ◌*◌, ◌<◌, ◌≤◌, ◌≡◌, Bool, true, false, cond, ◌&&◌, List, [], ◌∷◌, ◌++◌, length, take, drop, Option, Some, None, ltb, leb, eqb}
 use Rattle.format_fields.specs.Lists.{all}
 use Rattle.format_fields.specs.Fields.{Field, field, byte_at, pair_at}
 
@@ -24,10 +24,10 @@ pub record WholeEnd (s : List ℕ) (p e : ℕ) : Type 0 where
   pub past : p + 3 ≤ e
   pub fits : e ≤ length s
 
--- e is where the field at p ends if it is whole, and 0 if it is not.
-pub record EndIfWhole (s : List ℕ) (p e : ℕ) : Type 0 where
-  pub cut : e ≡ 0 → is_whole s p ≡ false
-  pub whole : (e ≡ 0 → ⊥) → WholeEnd s p e
+-- r is where the field at p ends if it is whole, and nothing if it is not.
+pub record EndIfWhole (s : List ℕ) (p : ℕ) (r : Option ℕ) : Type 0 where
+  pub cut : r ≡ None → is_whole s p ≡ false
+  pub whole : (e : ℕ) → r ≡ Some e → WholeEnd s p e
 
 -- The first five bytes of the field at p are there.
 unfoldable pub long_at : List ℕ → ℕ → Bool

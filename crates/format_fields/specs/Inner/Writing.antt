@@ -1,7 +1,5 @@
 -- What is written into a lent output.
-use Rattle.std.specs.Prelude.{ℕ, ◌+◌, ◌<◌, ◌≤◌, ◌≡◌, List, ◌++◌, length, take, drop}
-use Rattle.format_fields.specs.declared.copy.Stored.{Stored}
-use Rattle.format_fields.specs.declared.copy.Stored.TheVariants.{To, Full}
+use Rattle.std.specs.Prelude.{ℕ, ◌+◌, ◌<◌, ◌≤◌, ◌≡◌, List, ◌++◌, length, take, drop, None, Option, Some}
 
 -- There are bytes from p up to e.
 pub record Inside (s : List ℕ) (p e : ℕ) : Type 0 where
@@ -19,6 +17,6 @@ pub record Written (v o o' : List ℕ) (n m : ℕ) : Type 0 where
   pub bytes : o' ≡ spliced o n v
 
 -- The answer r, where v is to be written from n on over the output o, and o' is left.
-pub record Stores (v o o' : List ℕ) (n : ℕ) (r : Stored) : Type 0 where
-  pub done : (m : ℕ) → r ≡ To m → Written v o o' n m
-  pub full : r ≡ Full → length o < n + length v
+pub record Stores (v o o' : List ℕ) (n : ℕ) (r : Option ℕ) : Type 0 where
+  pub done : (m : ℕ) → r ≡ Some m → Written v o o' n m
+  pub full : r ≡ None → length o < n + length v

@@ -1,6 +1,7 @@
 -- The parts of a pack by their places, as the code reads them.
 -- `proofs/ByPlace.antt` shows that they are the parts of `pack_parts`.
-use Rattle.std.specs.Prelude.{ℕ, ◌+◌, ◌≤◌, ◌≡◌, Bool, true, cond, ◌&&◌, List, [], length, eqb}
+use Rattle.std.specs.Prelude as Std
+use Rattle.std.specs.Prelude.{Some, ℕ, ◌+◌, ◌≤◌, ◌≡◌, Bool, true, cond, ◌&&◌, List, [], length, eqb}
 use Rattle.std.proofs.Math.Option.{Option, none, some}
 use Rattle.std.proofs.Math.ListN.{get_elem?}
 use Rattle.format_fields.specs.Lists.{is_some, keep}
@@ -12,6 +13,7 @@ use Rattle.format_language.specs.LanguageFile.{entries_of}
 use Rattle.format_language.specs.Inner.Entries.{results_meet}
 use Rattle.format_translation.specs.Translation.{Body}
 use Rattle.format_translation.specs.TranslationFile.{body_of}
+use Rattle.format_pack.specs.declared.parts.Place.{Place}
 use Rattle.format_pack.specs.Pack.{Part, language_part, body_part, term_part}
 
 -- The list that is there, or the empty one.
@@ -63,8 +65,7 @@ rises_at s p =
 unfoldable pub clash_at : List ℕ → ℕ → Bool
 clash_at s p = eqb (byte_at s p) 0x30 && results_meet (contents_at s p) (contents_at s p)
 
--- The field of this tag and number stands from the first position up to the second, in the bytes.
-pub record StandsAt (tag : ℕ) (s : List ℕ) (number start end : ℕ) : Type 0 where
-  pub past : start ≤ end
-  pub inside : end ≤ length s
-  pub is : (p : ℕ) → get_elem? (tagged tag s) number ≡ some p → (start ≡ p + 3) × (end ≡ field_end s p)
+-- Where the contents of the field of this tag and number stand, if there is one.
+pub record StandsAt (tag : ℕ) (s : List ℕ) (number : ℕ) (r : Std.Option Place) : Type 0 where
+  pub inside : (a : Place) → r ≡ Some a → (a.start ≤ a.end) × (a.end ≤ length s)
+  pub is : (p : ℕ) → get_elem? (tagged tag s) number ≡ some p → r ≡ Some (record { start = p + 3; end = field_end s p })

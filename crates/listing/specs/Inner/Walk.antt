@@ -1,11 +1,9 @@
 -- The text as the code makes it: by a walk over the fields of a translation's bytes, from place to place.
 -- `proofs/Walk.antt` shows that it is the text of the translation.
-use Rattle.std.specs.Prelude.{ℕ, cond, ◌&&◌, List, [], ◌++◌, length, take, drop, leb, eqb}
+use Rattle.std.specs.Prelude.{ℕ, cond, ◌&&◌, List, [], ◌++◌, length, take, drop, leb, eqb, Err, Ok}
 use Rattle.format_fields.specs.Lists.{concat_map}
 use Rattle.format_fields.specs.Fields.{byte_at}
-use Rattle.outcome.specs.Outcome.{reason_number}
-use Rattle.outcome.specs.declared.Outcome.{Outcome}
-use Rattle.outcome.specs.declared.Outcome.TheVariants.{Accepted, Refused}
+use Rattle.outcome.specs.Outcome.{reason_number, Outcome}
 use Rattle.format_fields.specs.Inner.Places.{is_whole, contents_at, places}
 use Rattle.program_text.specs.Text.{accepted_word, refused_word, first_line}
 use Rattle.listing.specs.Text.{clause_line, numbered_line}
@@ -34,5 +32,5 @@ clause_lines s = concat_map (line_at s) (places s)
 
 -- The whole text, from the outcome of reduce and the output that it leaves.
 abbrev pub outcome_text : Outcome → List ℕ → List ℕ
-outcome_text (Accepted n) output = first_line accepted_word n ++ clause_lines (take n output)
-outcome_text (Refused r) output = first_line refused_word (reason_number r)
+outcome_text (Ok n) output = first_line accepted_word n ++ clause_lines (take n output)
+outcome_text (Err r) output = first_line refused_word (reason_number r)

@@ -1,10 +1,8 @@
 -- What the join knows of its two translations.
-use Rattle.std.specs.Prelude.{ℕ, ◌+◌, ◌-◌, ◌/◌, ◌%◌, ◌<◌, ◌≤◌, ◌≡◌, true, cond, List, [], ◌∷◌, ◌++◌, map, length, get_or, take, drop, replicate, eqb}
+use Rattle.std.specs.Prelude.{ℕ, ◌+◌, ◌-◌, ◌/◌, ◌%◌, ◌<◌, ◌≤◌, ◌≡◌, true, cond, List, [], ◌∷◌, ◌++◌, map, length, get_or, take, drop, replicate, eqb, Err, Ok}
 use Rattle.std.proofs.Math.Option.{some}
-use Rattle.outcome.specs.Outcome.{value}
+use Rattle.outcome.specs.Outcome.{value, Outcome}
 use Rattle.format_fields.specs.Lists.{is_some}
-use Rattle.outcome.specs.declared.Outcome.{Outcome}
-use Rattle.outcome.specs.declared.Outcome.TheVariants.{Accepted, Refused}
 use Rattle.outcome.specs.declared.Reason.TheVariants.{ValueTooLarge}
 use Rattle.format_fields.specs.Fields.{encode_field, encode_fields}
 use Rattle.format_fields.specs.Inner.Places.{field_end, places_from, places}
@@ -20,6 +18,7 @@ use Rattle.run_emit.specs.Inner.Runs.{TermAsks}
 use Rattle.reduce_operators.specs.Operators.{numbers_low, join_fits, join_item, joined}
 use Rattle.reduce_operators.specs.Inner.Paired.{reached, paired_item}
 use Rattle.reduce_operators.specs.Inner.EncodedParts.{EncodedParts}
+use Rattle.reduce_operators.specs.declared.parts.Parts.{Parts}
 
 -- A file can hold the translation.
 abbrev pub Held : Translation → Type 0
@@ -52,6 +51,10 @@ pub record Fitted (s t b s' b' : List ℕ) (f g : Translation) : Type 0 where
   pub first_low : numbers_low f ≡ true
   pub second_low : numbers_low g ≡ true
   pub fits : join_fits f g ≡ true
+
+-- The same of the parts that are lent.
+abbrev pub FittedParts : (first second : Parts) → Translation → Translation → Type 0
+FittedParts first second f g = Fitted first.source.now first.target.now first.body.now second.source.now second.body.now f g
 
 -- How many bytes stand before the code in the field of a clause of this number.
 unfoldable pub head_length : ℕ → ℕ
@@ -117,5 +120,5 @@ joined_body f g = encode_fields (map item_field (joined f g).body)
 
 -- The answer for a value by what the check of it answers: its length, or 11 where the check refuses it.
 abbrev pub checked_length : List ℕ → Outcome → Outcome
-checked_length v (Accepted n) = Accepted (length v)
-checked_length v (Refused r) = Refused ValueTooLarge
+checked_length v (Ok n) = Ok (length v)
+checked_length v (Err r) = Err ValueTooLarge

@@ -16,6 +16,10 @@ pub record Part : Type 0 where
 abbrev pub part_key : Part → ℕ
 part_key a = a.key
 
+-- Two fields have one key.
+unfoldable pub same_key : Part → Part → Bool
+same_key a b = eqb a.key b.key
+
 -- Two fields are the same, byte for byte.
 unfoldable pub same_part : Part → Part → Bool
 same_part a b = eqb a.key b.key && same_numbers a.bytes b.bytes

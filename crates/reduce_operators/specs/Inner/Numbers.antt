@@ -1,5 +1,5 @@
 -- The numbers of a body's mappings (paper 02, 2026-13), as the code tests them.
-use Rattle.std.specs.Prelude.{ℕ, ◌-◌, ◌%◌, Bool, true, not, ◌||◌, List, get_or, ltb, eqb}
+use Rattle.std.specs.Prelude.{ℕ, ◌+◌, ◌*◌, ◌<◌, ◌≡◌, Bool, true, not, ◌||◌, List, ltb}
 use Rattle.format_fields.specs.Lists.{is_some}
 use Rattle.format_translation.specs.Translation.{Item, mapping, clause, Body, mapping_of}
 
@@ -13,6 +13,8 @@ unfoldable pub number_in : Body → Item → Bool
 number_in b (mapping s j t) = not (is_some (mapping_of b s 0)) || is_some (mapping_of b s j)
 number_in b (clause r p j code) = true
 
--- The same by the table of what kinds map to, at 256 k + j for number j of kind k.
-unfoldable pub key_known : List ℕ → ℕ → Bool
-key_known uses key = eqb (get_or uses (key - key % 256) 0) 0 || not (eqb (get_or uses key 0) 0)
+-- A call with the key of a mapping, which is 256 k + j for number j of kind k, ends, by `post`, with whether the mapping passes. A
+-- clause does.
+pub record Tests (post : ℕ → Bool → Type 0) (passes : Item → Bool) : Type 0 where
+  pub mappings : (s j t : ℕ) (r : Bool) → s < 32 → j < 256 → post (s * 256 + j) r → r ≡ passes (mapping s j t)
+  pub clauses : (r p j : ℕ) (code : List ℕ) → passes (clause r p j code) ≡ true

@@ -1,7 +1,6 @@
 -- What the operators on bytes give: the bytes of a value at the start of a lent buffer, or why there is none.
 use Rattle.std.specs.Prelude.{ℕ, ◌≤◌, ◌≡◌, not, List, length, take}
-use Rattle.outcome.specs.Outcome.{Result, value, refuse_if, ◌>>=◌, written}
-use Rattle.outcome.specs.declared.Outcome.{Outcome}
+use Rattle.outcome.specs.Outcome.{Result, value, refuse_if, ◌>>=◌, written, Outcome}
 use Rattle.outcome.specs.declared.Reason.TheVariants.{BrokenField, ValueTooLarge}
 use Rattle.format_fields.specs.Lists.{same_numbers}
 use Rattle.format_language.specs.Language.{Language}

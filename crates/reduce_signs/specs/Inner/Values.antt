@@ -1,11 +1,9 @@
 -- What the signs ask of values that stand in a store and in the pack, and what they write to a lent buffer.
-use Rattle.std.specs.Prelude.{ℕ, ◌+◌, ◌-◌, ◌<◌, ◌≤◌, ◌≡◌, List, length, take, get_or}
+use Rattle.std.specs.Prelude.{ℕ, ◌+◌, ◌-◌, ◌<◌, ◌≤◌, ◌≡◌, List, length, take, get_or, Err, Ok}
 use Rattle.std.proofs.Math.Option.{Option, none, some}
 use Rattle.std.proofs.Math.ListN.{get_elem?}
 use Rattle.std.proofs.Math.Seq.{slice}
-use Rattle.outcome.specs.Outcome.{Result, value}
-use Rattle.outcome.specs.declared.Outcome.{Outcome}
-use Rattle.outcome.specs.declared.Outcome.TheVariants as Outcomes
+use Rattle.outcome.specs.Outcome.{Result, value, Outcome}
 use Rattle.format_language.specs.Language.{Language}
 use Rattle.format_translation.specs.Translation.{Body}
 use Rattle.format_translation.specs.WellFormed.{well_formed}
@@ -14,8 +12,10 @@ use Rattle.format_pack.specs.Terms.{Sort, languages, translations}
 use Rattle.format_pack.specs.Pack.{Pack, pack_of}
 use Rattle.reduce_signs.specs.declared.apply.Operator.{Operator}
 use Rattle.reduce_signs.specs.declared.apply.Operator.TheVariants.{One, Two, Make}
-use Rattle.reduce_signs.specs.declared.evaluated.Evaluated.{Evaluated}
-use Rattle.reduce_signs.specs.declared.evaluated.Evaluated.TheVariants.{To, Refused}
+use Rattle.std.specs.Prelude as Std
+use Rattle.outcome.specs.declared.Reason.{Reason}
+use Rattle.reduce_signs.specs.declared.evaluated.Ended.{Ended}
+use Rattle.reduce_signs.specs.declared.evaluated.EndedTwo.{EndedTwo}
 use Rattle.reduce_signs.specs.declared.places.Places.{Places}
 use Rattle.reduce_signs.specs.declared.sorts.Binary.{Binary}
 use Rattle.reduce_signs.specs.declared.sorts.Unary.{Unary}
@@ -100,10 +100,17 @@ Applied (One o) pack a b out filled r = AppliedOne o a out filled r
 Applied (Two o) pack a b out filled r = AppliedTwo o a b out filled r
 Applied (Make n) pack a b out filled r = Made pack n a b out filled r
 
+-- What a reducer answers, and for two operands.
+abbrev pub Evaluated : Type 0
+Evaluated = Std.Result Ended Reason
+
+abbrev pub EvaluatedTwo : Type 0
+EvaluatedTwo = Std.Result EndedTwo Reason
+
 -- The answer of a reducer whose value an operator wrote, where the term ends at `end`.
 abbrev pub finished : Outcome → ℕ → Evaluated
-finished (Outcomes.Accepted n) end = To n end
-finished (Outcomes.Refused r) end = Refused r
+finished (Ok n) end = Ok (record { value = n; term = end })
+finished (Err r) end = Err r
 
 -- The value of a sign, or the refusal, was written to the buffer, and the term ends at `end`.
 pub record Wrote (s : Sort) (q : Result (Value s)) (out filled : List ℕ) (end : ℕ) (r : Evaluated) : Type 0 where

@@ -1,19 +1,15 @@
 -- What the reducers ask for and give: a term that stands in the pack, an environment whose values stand in the store
 -- below `top`, and the value's bytes at the start of a lent buffer or, for an operand, in the store from `top` on.
-use Rattle.std.specs.Prelude.{ℕ, ◌+◌, ◌-◌, ◌*◌, ◌≤◌, ◌≡◌, true, ◌⊎◌, List, length, take, drop}
+use Rattle.std.specs.Prelude.{Ok, Err, ℕ, ◌+◌, ◌-◌, ◌*◌, ◌≤◌, ◌≡◌, true, ◌⊎◌, List, length, take, drop}
 use Rattle.std.proofs.Math.Option.{some}
 use Rattle.std.proofs.Math.Seq.{slice}
 use Rattle.outcome.specs.Outcome.{Result, value, refused}
 use Rattle.format_pack.specs.Terms.{Sort, Term, read_term, scoped}
 use Rattle.format_pack.specs.Pack.{Pack, pack_of}
 use Rattle.reduce_signs.specs.declared.places.Places.{Places}
-use Rattle.reduce_signs.specs.declared.evaluated.Evaluated.{Evaluated}
-use Rattle.reduce_signs.specs.declared.evaluated.Evaluated.TheVariants.{To, Refused}
-use Rattle.reduce_signs.specs.declared.evaluated.EvaluatedTwo.{EvaluatedTwo}
-use Rattle.reduce_signs.specs.declared.evaluated.EvaluatedTwo.TheVariants as Twos
 use Rattle.reduce_signs.specs.Evaluation.{Value, Environment, constants_of, evaluate}
 use Rattle.reduce_signs.specs.Inner.Sorts.{encode_as, value_in}
-use Rattle.reduce_signs.specs.Inner.Values.{Held}
+use Rattle.reduce_signs.specs.Inner.Values.{Held, Evaluated, EvaluatedTwo}
 
 -- The pack and the environment that a term is evaluated in, with room for what so many levels keep.
 pub record Context (bytes : List ℕ) (places : Places) (store : List ℕ) (top levels : ℕ) : Type 0 where
@@ -56,18 +52,18 @@ pub record Ends (pack rest : List ℕ) (end : ℕ) : Type 0 where
 
 -- What the answer of a reducer says of what the term comes to.
 abbrev pub Says : (s : Sort) → Result (Value s) → (pack rest out : List ℕ) → Evaluated → Type 0
-Says s o pack rest out (To n end) = Left s o out n × Ends pack rest end
-Says s o pack rest out (Refused r) = o ≡ refused r
+Says s o pack rest out (Ok x) = Left s o out x.value × Ends pack rest x.term
+Says s o pack rest out (Err r) = o ≡ refused r
 
 -- What the answer says of an operand.
 abbrev pub SaysStored : (s : Sort) → Result (Value s) → (pack rest store : List ℕ) → ℕ → Evaluated → Type 0
-SaysStored s o pack rest store top (To last end) = Stored s o store top last × Ends pack rest end
-SaysStored s o pack rest store top (Refused r) = o ≡ refused r
+SaysStored s o pack rest store top (Ok x) = Stored s o store top x.value × Ends pack rest x.term
+SaysStored s o pack rest store top (Err r) = o ≡ refused r
 
 -- What the answer says of two operands: the first refusal, or both values and where the second term ends.
 abbrev pub SaysTwo : (s r : Sort) → Result (Value s) → Result (Value r) → (pack rest store : List ℕ) → ℕ → EvaluatedTwo → Type 0
-SaysTwo s r o q pack rest store top (Twos.To middle last end) = Stored s o store top middle × Stored r q store middle last × Ends pack rest end
-SaysTwo s r o q pack rest store top (Twos.Refused w) = (o ≡ refused w) ⊎ (((v : Value s) × (o ≡ value v)) × (q ≡ refused w))
+SaysTwo s r o q pack rest store top (Ok x) = Stored s o store top x.first × Stored r q store x.first x.second × Ends pack rest x.term
+SaysTwo s r o q pack rest store top (Err w) = (o ≡ refused w) ⊎ (((v : Value s) × (o ≡ value v)) × (q ≡ refused w))
 
 -- What is left of the store: what lies below top, and its length.
 pub record Kept (store after : List ℕ) (top : ℕ) : Type 0 where

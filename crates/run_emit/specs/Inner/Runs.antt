@@ -1,6 +1,6 @@
 -- What the functions of the run ask for and give: for a term of the input, for the node whose arguments are put out, and
 -- for codes in a row.
-use Rattle.std.specs.Prelude.{ℕ, zero, suc, ◌+◌, ◌-◌, ◌/◌, ◌%◌, ◌≤◌, ◌<◌, ◌≡◌, Bool, true, false, not, cond, ◌⊎◌, List, [], ◌∷◌, map, length, get_or, ltb, eqb}
+use Rattle.std.specs.Prelude.{ℕ, zero, suc, ◌+◌, ◌-◌, ◌/◌, ◌%◌, ◌≤◌, ◌<◌, ◌≡◌, Bool, true, false, not, cond, ◌⊎◌, List, [], ◌∷◌, map, length, get_or, eqb}
 use Rattle.std.proofs.Math.Option.{some}
 use Rattle.format_fields.specs.Lists.{is_some}
 use Rattle.format_language.specs.Language.{Language}
@@ -14,6 +14,8 @@ use Rattle.tree_reader.specs.Inner.Positions.{syntax_of}
 use Rattle.tree_reader.specs.Inner.Ends.{Kept}
 use Rattle.format_translation.specs.Translation.{Translation, mapping_of}
 use Rattle.format_translation.specs.Running.{Replacing, clauses_of, substitute, substitute_all, from_one, paired, run, run_operand}
+use Rattle.run_emit.specs.declared.run.Used.{Used}
+use Rattle.run_emit.specs.declared.run.Used.TheVariants.{Root, At}
 use Rattle.run_table.specs.Inner.Stands.{Stands}
 use Rattle.run_table.specs.Inner.Table.{body_start, index_entry, source_byte, body_byte, KindsAt, SpansAllAt, Clause, Ready}
 
@@ -131,14 +133,16 @@ pub record RowAsks (x : Syntax) (t input ends state : List ℕ) (at stop left : 
 abbrev pub used_place : List ℕ → ℕ → ℕ
 used_place t c = body_byte t (c + 1) - 1
 
--- By which number a term is run that is used at c in the body: by 0 at 03, at 04 by the number behind the argument's. The
--- root is used nowhere: for it c is its number and the length of a body.
-unfoldable pub used_number : List ℕ → ℕ → ℕ
-used_number t c = cond (ltb c 4096) (cond (eqb (body_byte t c) 3) 0 (body_byte t (c + 2))) (c - 4096)
+-- By which number a term is run: by that of the root, by 0 where 03 in the body uses it, by the number behind the argument's
+-- where 04 does.
+unfoldable pub used_number : List ℕ → Used → ℕ
+used_number t (Root number) = number
+used_number t (At c) = cond (eqb (body_byte t c) 3) 0 (body_byte t (c + 2))
 
 -- A use lies in the body.
-abbrev pub UseRoom : List ℕ → ℕ → Type 0
-UseRoom t c = c < 4096 → (body_byte t c ≡ 3 → ⊥) → c + 2 < 4096
+abbrev pub UseRoom : List ℕ → Used → Type 0
+UseRoom t (Root number) = Unit {0}
+UseRoom t (At c) = (c < 4096) × ((body_byte t c ≡ 3 → ⊥) → c + 2 < 4096)
 
 -- The run of the argument of a node that is used at c in the body.
 pub record ArgumentAsks (x : Syntax) (t input ends state : List ℕ) (c left : ℕ) (f : Translation) (given : Uses) (ts : Codes) (ks : List ℕ) : Type 0 where
@@ -148,10 +152,10 @@ pub record ArgumentAsks (x : Syntax) (t input ends state : List ℕ) (c left : �
   pub most : levels_all ts ≤ 64
   pub nodes : levels_all ts ≤ left / tree_level
   pub more : 0 < left % tree_level
-  pub room : UseRoom t c
+  pub room : UseRoom t (At c)
   pub some : 0 < body_byte t (c + 1)
   pub place : used_place t c < length ks
-  pub has : Has f (get_or ks (used_place t c) 0) (used_number t c)
+  pub has : Has f (get_or ks (used_place t c) 0) (used_number t (At c))
 
 -- The same, of argument j, counted from 0, which starts at `at`.
 pub record PlacedAsks (x : Syntax) (t input ends state : List ℕ) (left j at c : ℕ) (f : Translation) (given : Uses) (ts : Codes) (ks : List ℕ) : Type 0 where

@@ -1,22 +1,26 @@
 -- What is measured of a tree: the length of its run and what it costs.
-use Rattle.std.specs.Prelude.{ℕ, ◌+◌, ◌*◌, ◌<◌, ◌≤◌, ◌≡◌, List, length, get_or, drop}
+use Rattle.std.specs.Prelude.{ℕ, Result, Ok, Err, ◌+◌, ◌*◌, ◌<◌, ◌≤◌, ◌≡◌, List, length, get_or, drop}
 use Rattle.std.proofs.Math.Option.{some}
 use Rattle.format_language.specs.Language.{arguments_of, production_key}
 use Rattle.tree_reader.specs.Code.{Code}
 use Rattle.tree_reader.specs.Syntax as Meant
+use Rattle.tree_reader.specs.declared.node.ReadError.{ReadError}
+use Rattle.tree_reader.specs.declared.node.ReadError.TheVariants.{Deep, Broken}
 use Rattle.format_translation.specs.Translation.{Translation, mapping_of}
 use Rattle.format_translation.specs.Running.{clauses_of, transform}
 use Rattle.run_measure.specs.Cost.{cost}
 use Rattle.run_measure.specs.Inner.Sizes.{size, own, uses, capped}
 use Rattle.run_measure.specs.Inner.Counting.{Tables, times_at}
-use Rattle.run_measure.specs.declared.measure.Measured.{Measured}
-use Rattle.run_measure.specs.declared.measure.Measured.TheVariants.{End, Deep, Broken}
+use Rattle.run_measure.specs.declared.measure.Figures.{Figures}
+
+-- The measure of a tree, or why there is none.
+abbrev pub Measured : Type 0
+Measured = Result Figures ReadError
 
 -- A position that was reached lies in the bytes, and what was measured is at most the top.
 abbrev pub EndsIn : ℕ → ℕ → Measured → Type 0
-EndsIn n top (End e m c) = (e ≤ n) × (m ≤ top) × (c ≤ top)
-EndsIn n top Deep = Unit {0}
-EndsIn n top Broken = Unit {0}
+EndsIn n top (Ok m) = (m.end ≤ n) × (m.length ≤ top) × (m.cost ≤ top)
+EndsIn n top (Err e) = Unit {0}
 
 -- What measuring comes to: the bytes after the tree, the length of its run and what it costs, one level too many, or no
 -- such tree.
@@ -27,9 +31,9 @@ pub data Sized : Type 0 where
 
 -- What the code measured, with what is left after the position that it reached.
 abbrev pub sized_at : List ℕ → Measured → Sized
-sized_at b (End e n c) = sized (drop e b) n c
-sized_at b Deep = deep
-sized_at b Broken = broken
+sized_at b (Ok m) = sized (drop m.end b) m.length m.cost
+sized_at b (Err Deep) = deep
+sized_at b (Err Broken) = broken
 
 -- What is to be measured: the length of the run by number j of the tree that was read, and its cost, up to the top.
 abbrev pub sized_of : ℕ → Translation → ℕ → Meant.Read Code → Sized

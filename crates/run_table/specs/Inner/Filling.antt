@@ -1,5 +1,5 @@
 -- What the functions that fill the table ask for and give.
-use Rattle.std.specs.Prelude.{ℕ, ◌+◌, ◌-◌, ◌*◌, ◌<◌, ◌≤◌, ◌≡◌, true, cond, ◌&&◌, List, length, get_or, drop, set, eqb, ltb}
+use Rattle.std.specs.Prelude.{ℕ, Option, Some, None, ◌+◌, ◌<◌, ◌≤◌, ◌≡◌, true, cond, ◌&&◌, List, length, get_or, drop, set, eqb, ltb}
 use Rattle.format_fields.specs.Fields.{byte_at, pair_at}
 use Rattle.format_language.specs.Language.{Language, production_key}
 use Rattle.tree_reader.specs.Code.{Code, levels}
@@ -7,10 +7,11 @@ use Rattle.tree_reader.specs.Typing.{Uses, Typed}
 use Rattle.tree_reader.specs.Syntax.{write, code}
 use Rattle.format_translation.specs.Translation.{Translation}
 use Rattle.format_translation.specs.Running.{clauses_of}
-use Rattle.format_translation.specs.Inner.Items.{is_clause_tag}
+use Rattle.format_translation.specs.Inner.Items.{is_clause_tag, code_start, clause_number}
+use Rattle.format_translation.specs.Inner.ItemIndex.{mapped_by}
 use Rattle.run_table.specs.Inner.Stands.{Stands}
 use Rattle.tree_reader.specs.Inner.Index.{index_length, table_length, Built, Around, Indexed}
-use Rattle.run_table.specs.Inner.Table.{items_start, source_start, spans_start, hints_start, clause_entry, hint_entry, source_byte, body_byte, SpansAt, code_start, clause_number, is_place}
+use Rattle.run_table.specs.Inner.Table.{items_start, source_start, spans_start, hints_start, clause_entry, hint_entry, source_byte, body_byte, SpansAt, is_place}
 
 -- The part of the table in which the index of the target stands first.
 abbrev pub target_index : List ℕ → List ℕ
@@ -29,10 +30,6 @@ pub record Filled (s b t u : List ℕ) : Type 0 where
   pub source : (j : ℕ) → j < length s → source_byte u j ≡ get_or s j 0
   pub body : (j : ℕ) → j < length b → body_byte u j ≡ get_or b j 0
 
--- The kind that kind k maps to by number j, by the table of uses; 0 where it is not mapped.
-unfoldable pub mapped_by : List ℕ → ℕ → ℕ → ℕ
-mapped_by uses k j = get_or uses (k * 256 + j) 0 - 1
-
 -- The table u is t but for spans from `at` on.
 pub record Below (t u : List ℕ) (at : ℕ) : Type 0 where
   pub long : length u ≡ length t
@@ -49,12 +46,22 @@ pub record Hinted (b t u : List ℕ) : Type 0 where
   pub same : (j : ℕ) → j < hints_start → get_or u j 0 ≡ get_or t j 0
   pub hint : (i : ℕ) → 0 < hint_entry u i → is_place b (hint_entry u i) ≡ true
 
--- Where r is not 0, a leaf of a code stands in the body b at `at` and ends at r: two bytes behind 03, three behind 02 and 04.
-pub record LeafEnds (b : List ℕ) (at r : ℕ) : Type 0 where
-  pub inside : 0 < r → at < length b
-  pub leaf : 0 < r → byte_at b at ≡ 1 → ⊥
-  pub argument : 0 < r → byte_at b at ≡ 3 → r ≡ at + 2
-  pub other : 0 < r → (byte_at b at ≡ 3 → ⊥) → r ≡ at + 3
+-- What an index holds under a key, as the place that it is: 0 is none.
+abbrev pub PlaceIs : ℕ → Option ℕ → Type 0
+PlaceIs entry (Some place) = (place ≡ entry) × (0 < place) × (place < 65536)
+PlaceIs entry None = entry ≡ 0
+
+-- A leaf of a code stands in the body b at `at` and ends at r: two bytes behind 03, three behind 02 and 04.
+pub record Leaf (b : List ℕ) (at r : ℕ) : Type 0 where
+  pub inside : at < length b
+  pub leaf : byte_at b at ≡ 1 → ⊥
+  pub argument : byte_at b at ≡ 3 → r ≡ at + 2
+  pub other : (byte_at b at ≡ 3 → ⊥) → r ≡ at + 3
+
+-- The leaf of a code in the body b at `at`; none where a production's code stands there, or nothing.
+abbrev pub LeafEnds : List ℕ → ℕ → Option ℕ → Type 0
+LeafEnds b at (Some r) = Leaf b at r
+LeafEnds b at None = at < length b → byte_at b at ≡ 1
 
 -- The code a of a kind of language l, whose bytes are s, stands in the body from `at` on.
 pub record CodeAsks (s index b : List ℕ) (k at n : ℕ) (l : Language) (given : Uses) (a : Code) : Type 0 where

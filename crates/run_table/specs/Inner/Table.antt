@@ -1,7 +1,7 @@
 -- The table that a run looks things up in, one row of numbers: the index of the source, the index of the body's items, the
 -- bytes of the source, the bytes of the body, for each position in the body where the code of a production starts the
 -- position where that code ends, and hints where clauses of other numbers than 0 stand.
-use Rattle.std.specs.Prelude.{ℕ, ◌+◌, ◌<◌, ◌≤◌, ◌≡◌, Bool, true, cond, ◌&&◌, List, length, get_or, eqb}
+use Rattle.std.specs.Prelude.{ℕ, ◌+◌, ◌<◌, ◌≤◌, ◌≡◌, Bool, true, ◌&&◌, List, length, get_or, eqb}
 use Rattle.std.proofs.Math.Option.{some}
 use Rattle.format_fields.specs.Fields.{byte_at}
 use Rattle.format_fields.specs.Lists.{any, is_some}
@@ -92,14 +92,6 @@ pub record Clause (t : List ℕ) (c : ℕ) (a : Code) : Type 0 where
   pub spans : SpansAt t c a
   pub within : levels a ≤ 16
   pub narrow : (i : ℕ) → c ≤ i → i < c + length (write code a) → body_byte t i < 256
-
--- Where the code of the clause at x in the body b starts: behind its number, where it has one.
-unfoldable pub code_start : List ℕ → ℕ → ℕ
-code_start b x = cond (eqb (byte_at b x) 0x29) (x + 6) (x + 5)
-
--- The number of the clause at x.
-unfoldable pub clause_number : List ℕ → ℕ → ℕ
-clause_number b x = cond (eqb (byte_at b x) 0x29) (byte_at b (x + 5)) 0
 
 -- A field of the body b starts at x.
 abbrev pub is_place : List ℕ → ℕ → Bool

@@ -1,10 +1,9 @@
 -- What the functions that put a joined table together ask for and give.
-use Rattle.std.specs.Prelude.{ℕ, ◌+◌, ◌≡◌, Bool, true, false, not, List, map, length, get_or, ℤ}
+use Rattle.std.specs.Prelude.{ℕ, ◌+◌, ◌<◌, ◌≡◌, Bool, true, false, not, List, map, length, get_or, Option, Some, None}
 use Rattle.std.proofs.Math.Option.{some}
 use Rattle.format_fields.specs.Lists.{concat_map, count_up}
 use Rattle.format_fields.specs.Fields.{encode_field}
-use Rattle.outcome.specs.Outcome.{Result, refuse_if, ◌>>=◌, written, output_after}
-use Rattle.outcome.specs.declared.Outcome.{Outcome}
+use Rattle.outcome.specs.Outcome.{Result, refuse_if, ◌>>=◌, written, output_after, Outcome}
 use Rattle.outcome.specs.declared.Reason.TheVariants.{NumberUnfit}
 use Rattle.format_fields.specs.Inner.Writing.{Written}
 use Rattle.format_language.specs.Language.{arguments_of}
@@ -23,22 +22,21 @@ use Rattle.score_tree.specs.LoadTable.{load, Table, load_field, encode_table, ta
 use Rattle.score_tree.specs.Linear.{Loads, form}
 use Rattle.score_tree.specs.Inner.Terms.{World}
 use Rattle.score_join.specs.Joined.{joined_of}
-use Rattle.score_join.specs.declared.join.Joined.{Joined}
-use Rattle.score_join.specs.declared.join.Joined.TheVariants.{To}
-use Rattle.score_join.specs.declared.join.Joined.TheVariants as Ends
+use Rattle.score_join.specs.declared.join.Held.{Held}
 
 -- The indexes of a translation's languages, one behind the other, as its check leaves them: that of the target t stands behind.
 pub record Behind (t indexes : List ℕ) : Type 0 where
   pub long : length indexes ≡ indexes_length
   pub built : Built 0x11 t indexes index_length
 
--- The three parts of f, which has number 0 only, the indexes of its target and its body, and the figures of a table of the
--- target.
-pub record Parts (s t index b items : List ℕ) (figures : List ℤ) (f : Translation) (w : Loads) : Type 0 where
-  pub checked : Checked s t b f
+-- What is held is f, which has number 0 only, its target with loads of it.
+pub record Parts (h : Held) (f : Translation) (w : Loads) : Type 0 where
+  pub checked : Checked h.source.now h.target.language.now h.body.now f
+  pub source_bytes : (i : ℕ) → get_or h.source.now i 0 < 256
+  pub body_bytes : (i : ℕ) → get_or h.body.now i 0 < 256
   pub plain_body : plain f.body ≡ true
-  pub world : World t index figures f.target w
-  pub indexed : IndexedItems items b f.body
+  pub world : World h.target.language.now h.target.index.now h.target.figures.now f.target w
+  pub indexed : IndexedItems h.items.now h.body.now f.body
 
 -- The code of the clause of the production at p of the source.
 abbrev pub clause_at : Translation → List ℕ → ℕ → Code
@@ -53,16 +51,16 @@ unfoldable pub load_bytes : Translation → Loads → List ℕ → ℕ → ℕ �
 load_bytes f w s p count = encode_field (load_field (load (get_or s (p + 3) 0) (get_or s (p + 4) 0) (map (form w (clause_at f s p)) (count_up count 0))))
 
 -- The production at p of the source has so many figures.
-pub record LoadAsks (s t index b items : List ℕ) (figures : List ℤ) (p count : ℕ) (f : Translation) (w : Loads) : Type 0 where
-  pub parts : Parts s t index b items figures f w
-  pub production : IsProduction s p
+pub record LoadAsks (h : Held) (p count : ℕ) (f : Translation) (w : Loads) : Type 0 where
+  pub parts : Parts h f w
+  pub production : IsProduction h.source.now p
   pub kinds : List ℕ
-  pub known : arguments_of f.source (get_or s (p + 3) 0) (get_or s (p + 4) 0) ≡ some kinds
+  pub known : arguments_of f.source (get_or h.source.now (p + 3) 0) (get_or h.source.now (p + 4) 0) ≡ some kinds
 
 -- The answer r, where bytes v are to be put at n over o, if a test holds.
-pub record Puts (fits : Bool) (v o after : List ℕ) (n : ℕ) (r : Joined) : Type 0 where
-  pub done : (m : ℕ) → r ≡ To m → (fits ≡ true) × Written v o after n m
-  pub outside : r ≡ Ends.Outside → fits ≡ false
+pub record Puts (fits : Bool) (v o after : List ℕ) (n : ℕ) (r : Option ℕ) : Type 0 where
+  pub done : (m : ℕ) → r ≡ Some m → (fits ≡ true) × Written v o after n m
+  pub outside : r ≡ None → fits ≡ false
 
 -- The outcome and the output are those of a result.
 pub record Answers (result : Result (List ℕ)) (before after : List ℕ) (outcome : Outcome) : Type 0 where

@@ -1,8 +1,9 @@
 -- What the functions below the scores ask for and answer.
-use Rattle.std.specs.Prelude.{ℕ, ◌<◌, ◌≤◌, ◌≡◌, false, not, List, [], ◌∷◌, length, ℤ, pos}
+use Rattle.std.specs.Prelude as Std
+use Rattle.std.specs.Prelude.{ℕ, ◌<◌, ◌≤◌, ◌≡◌, false, not, List, [], ◌∷◌, length, ℤ}
 use Rattle.std.proofs.Math.Option.{some}
-use Rattle.outcome.specs.Outcome.{Result, value, refused, refuse_if, ◌>>=◌, checked}
-use Rattle.outcome.specs.declared.Outcome.{Outcome}
+use Rattle.outcome.specs.Outcome.{Result, value, refused, refuse_if, ◌>>=◌}
+use Rattle.outcome.specs.declared.Reason.{Reason}
 use Rattle.outcome.specs.declared.Reason.TheVariants.{UnknownRoot, IllegalTree, TooDeep, ScoreOutOfRange}
 use Rattle.format_language.specs.Language.{Language, clashes, is_in}
 use Rattle.format_language.specs.LanguageFile.{entries_of, language_of}
@@ -10,18 +11,15 @@ use Rattle.tree_reader.specs.Syntax.{Read, done, deep, broken}
 use Rattle.tree_reader.specs.Operations.{tree_levels}
 use Rattle.score_tree.specs.LoadTable.{Table, table_of, figure_of}
 use Rattle.score_tree.specs.Inner.Kept.{Kept}
-use Rattle.score_tree.specs.Inner.Spreads.{Spread, spread, read_spread}
+use Rattle.score_tree.specs.Inner.Spreads.{Spread, read_spread}
+use Rattle.score_tree.specs.Inner.Sums.{ends}
+use Rattle.score_tree.specs.declared.figures.Ends.{Ends}
+use Rattle.score_tree.specs.declared.walk.Tokens.{Tokens}
 
--- The ends that a result gives: a refusal has 0 at both.
-abbrev pub spread_in : Result Spread → Spread
-spread_in (value e) = e
-spread_in (refused r) = spread (pos 0) (pos 0) false
-
--- The outcome and the two scores are those of a result.
-pub record Answers (result : Result Spread) (outcome : Outcome) (least greatest : ℤ) : Type 0 where
-  pub answer : outcome ≡ checked result
-  pub low : least ≡ (spread_in result).least
-  pub high : greatest ≡ (spread_in result).greatest
+-- What a score answers.
+abbrev pub answered : Result Spread → Std.Result Ends Reason
+answered (value t) = Std.Ok (ends t.least t.greatest)
+answered (refused r) = Std.Err r
 
 -- The bytes s are those of language l, and the figures those of its table w.
 pub record Held (s : List ℕ) (figures : List ℤ) (l : Language) (w : Table) : Type 0 where
@@ -57,10 +55,10 @@ whole_spread (done t (b ∷ s)) = refused IllegalTree
 whole_spread deep = refused TooDeep
 whole_spread broken = refused IllegalTree
 
--- The ends of a plan's score by language and table, its tokens in so many bytes: the last links of the chain.
-unfoldable pub ends_on : ℕ → Language → Table → ℕ → List ℕ → Result Spread
-ends_on width l w root bytes = whole_spread (read_spread width l (figure_of w) tree_levels root bytes)
+-- The ends of a plan's score by language and table, with such tokens: the last links of the chain.
+unfoldable pub ends_on : Tokens → Language → Table → ℕ → List ℕ → Result Spread
+ends_on tokens l w root bytes = whole_spread (read_spread tokens l (figure_of w) tree_levels root bytes)
 
 -- The whole chain.
-unfoldable pub plan_ends : ℕ → List ℕ → ℕ → List ℕ → List ℕ → Result Spread
-plan_ends width s root bytes t = ground_of s root t >>= λ g. ends_on width g.language g.table root bytes
+unfoldable pub plan_ends : Tokens → List ℕ → ℕ → List ℕ → List ℕ → Result Spread
+plan_ends tokens s root bytes t = ground_of s root t >>= λ g. ends_on tokens g.language g.table root bytes

@@ -1,6 +1,6 @@
 -- The figures of a load table by the positions of the language's bytes: where a production's field starts at p, its constant is
 -- kept at p + 4, where its name stands, and the factor of each argument where that argument's kind stands.
-use Rattle.std.specs.Prelude.{ℕ, ◌+◌, ◌*◌, ◌<◌, ◌≤◌, ◌≡◌, Bool, true, false, ◌&&◌, List, length, get_or, eqb, ℤ, pos, nat_abs}
+use Rattle.std.specs.Prelude.{ℕ, ◌+◌, ◌*◌, ◌<◌, ◌≤◌, ◌≡◌, Bool, true, false, ◌&&◌, List, length, get_or, eqb, ℤ, pos, nat_abs, Option, None, Some}
 use Rattle.format_fields.specs.Lists.{any}
 use Rattle.format_fields.specs.Fields.{byte_at, pair_at}
 use Rattle.format_fields.specs.Inner.Places.{is_whole, places, WholeEnd}
@@ -31,10 +31,10 @@ is_load s p t q =
     && (eqb (pair_at t (q + 1)) (2 * pair_at s (p + 1))
     && (eqb (byte_at t (q + 3)) (byte_at s (p + 3)) && eqb (byte_at t (q + 4)) (byte_at s (p + 4)))))
 
--- e is where the load at q ends, and 0 where there is none.
-pub record LoadEnd (s : List ℕ) (p : ℕ) (t : List ℕ) (q e : ℕ) : Type 0 where
-  pub none : e ≡ 0 → is_load s p t q ≡ false
-  pub some : (e ≡ 0 → ⊥) → (is_load s p t q ≡ true) × WholeEnd t q e
+-- r is where the load at q ends, if there is one.
+abbrev pub LoadEnd : List ℕ → ℕ → List ℕ → ℕ → Option ℕ → Type 0
+LoadEnd s p t q None = is_load s p t q ≡ false
+LoadEnd s p t q (Some e) = (is_load s p t q ≡ true) × WholeEnd t q e
 
 -- The figures are those of table w, by the positions of the language's bytes s.
 pub record Kept (figures : List ℤ) (s : List ℕ) (w : Table) : Type 0 where

@@ -1,12 +1,14 @@
 -- The ends of a plan's score, worked out while the plan is read, for fixed and loose plans alike: a fixed plan is one whose two
 -- ends are equal. What is read is by the forms of the reader.
-use Rattle.std.specs.Prelude.{ℕ, zero, suc, ◌+◌, ◌*◌, Bool, true, cond, ◌&&◌, List, [], ◌∷◌, eqb, leb, ℤ, pos, ◌+ℤ◌, ◌*ℤ◌}
+use Rattle.std.specs.Prelude.{ℕ, zero, suc, ◌+◌, ◌*◌, Bool, true, cond, ◌&&◌, List, [], ◌∷◌, leb, ℤ, pos, ◌+ℤ◌, ◌*ℤ◌}
 use Rattle.std.proofs.Math.Option.{Option, none, some}
 use Rattle.format_language.specs.Language.{Language, Range, range_of, arguments_of, in_range}
 use Rattle.tree_reader.specs.Syntax.{Read, done, deep, broken, and_then}
 use Rattle.score_tree.specs.Figures.{is_score}
 use Rattle.score_tree.specs.Linear.{Loads}
 use Rattle.score_tree.specs.Inner.Sums.{turned}
+use Rattle.score_tree.specs.declared.walk.Tokens.{Tokens}
+use Rattle.score_tree.specs.declared.walk.Tokens.TheVariants.{Fixed, Loose}
 
 -- The ends of a plan's score, and whether both ends of each score in it are in the range.
 pub record Spread : Type 0 where
@@ -60,9 +62,15 @@ read_loosely c (x ∷ y ∷ []) = broken
 read_loosely c (x ∷ y ∷ z ∷ []) = broken
 read_loosely c (x ∷ y ∷ z ∷ u ∷ s) = pair_spread c (x * 256 + y) (z * 256 + u) s
 
--- A token in so many bytes: 2 in fixed plans, 4 in loose ones.
-unfoldable pub read_values : ℕ → Range → List ℕ → Read Spread
-read_values width c s = cond (eqb width 2) (read_fixed c s) (read_loosely c s)
+-- How many bytes a token has: 2 in fixed plans, 4 in loose ones.
+abbrev pub token_size : Tokens → ℕ
+token_size Fixed = 2
+token_size Loose = 4
+
+-- A token in so many bytes.
+abbrev pub read_values : Tokens → Range → List ℕ → Read Spread
+read_values Fixed c s = read_fixed c s
+read_values Loose c s = read_loosely c s
 
 -- Plans of the given kinds, one after the other.
 unfoldable pub read_row : (ℕ → List ℕ → Read Spread) → List ℕ → List ℕ → Read (List Spread)
@@ -80,11 +88,11 @@ read_name reads l w k [] = broken
 read_name reads l w k (p ∷ s) = read_operands reads w k p (arguments_of l k p) s
 
 -- A class has a token, which is no level; what any other kind has comes last.
-unfoldable pub by_class : ℕ → Option Range → List ℕ → Read Spread → Read Spread
-by_class width (some c) s named = read_values width c s
-by_class width none s named = named
+unfoldable pub by_class : Tokens → Option Range → List ℕ → Read Spread → Read Spread
+by_class tokens (some c) s named = read_values tokens c s
+by_class tokens none s named = named
 
 -- The plan of kind k off the front of the bytes, with so many levels left. Past the last one only a token is read.
-unfoldable pub read_spread : ℕ → Language → Loads → ℕ → ℕ → List ℕ → Read Spread
-read_spread width l w zero k s = by_class width (range_of l k) s deep
-read_spread width l w (suc n) k s = by_class width (range_of l k) s (read_name (read_spread width l w n) l w k s)
+unfoldable pub read_spread : Tokens → Language → Loads → ℕ → ℕ → List ℕ → Read Spread
+read_spread tokens l w zero k s = by_class tokens (range_of l k) s deep
+read_spread tokens l w (suc n) k s = by_class tokens (range_of l k) s (read_name (read_spread tokens l w n) l w k s)

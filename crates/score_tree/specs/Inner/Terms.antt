@@ -1,5 +1,5 @@
 -- What the functions that work out the form of a code ask for and give.
-use Rattle.std.specs.Prelude.{ℕ, ◌+◌, ◌<◌, ◌≤◌, ◌≡◌, Bool, true, false, cond, List, length, get_or, eqb, ℤ, pos, nat_abs, ◌+ℤ◌, ◌*ℤ◌}
+use Rattle.std.specs.Prelude.{ℕ, ◌+◌, ◌<◌, ◌≤◌, ◌≡◌, true, false, cond, List, length, get_or, eqb, ℤ, pos, nat_abs, ◌+ℤ◌, ◌*ℤ◌, Option, Some, None, ⊤}
 use Rattle.std.proofs.Math.Option.{none, some}
 use Rattle.format_fields.specs.Fields.{pair_at}
 use Rattle.format_language.specs.Language.{Language, range_of, arguments_of, production_key}
@@ -8,11 +8,10 @@ use Rattle.tree_reader.specs.Typing.{Uses, kind_at, Typed, TypedAll}
 use Rattle.tree_reader.specs.Syntax.{code, write, write_all}
 use Rattle.tree_reader.specs.Inner.Index.{Indexed}
 use Rattle.run_table.specs.Inner.Stands.{Stands}
+use Rattle.score_tree.specs.declared.loaded.Loaded.{Loaded}
 use Rattle.score_tree.specs.Figures.{is_figure}
 use Rattle.score_tree.specs.Linear.{Loads, constant, used, form, passes}
 use Rattle.score_tree.specs.Inner.Kept.{Small, figures_length}
-use Rattle.score_tree.specs.declared.form.Formed.{Formed}
-use Rattle.score_tree.specs.declared.form.Formed.TheVariants.{To, Outside}
 
 -- The bytes of a code, and of codes.
 abbrev pub bytes_of : Code → List ℕ
@@ -50,8 +49,8 @@ abbrev pub Plain : Uses → Type 0
 Plain given = (i j k : ℕ) → kind_at given i j ≡ some k → j ≡ 0
 
 -- The code u of kind k stands in the input from `at` on, and has no more levels than are left.
-pub record TermAsks (s index : List ℕ) (figures : List ℤ) (b : List ℕ) (k at left : ℕ) (l : Language) (given : Uses) (w : Loads) (u : Code) : Type 0 where
-  pub world : World s index figures l w
+pub record TermAsks (d : Loaded) (b : List ℕ) (k at left : ℕ) (l : Language) (given : Uses) (w : Loads) (u : Code) : Type 0 where
+  pub world : World d.language.now d.index.now d.figures.now l w
   pub plain : Plain given
   pub typed : Typed l given u k
   pub kind : k < 32
@@ -60,10 +59,10 @@ pub record TermAsks (s index : List ℕ) (figures : List ℤ) (b : List ℕ) (k 
 
 -- The operands ts of production p of kind k, whose field stands before `place` in the language, stand in the input from `at`
 -- on.
-pub record NodeAsks (s index : List ℕ) (figures : List ℤ) (place : ℕ) (b : List ℕ) (at left : ℕ) (l : Language) (given : Uses) (w : Loads) (k p : ℕ) (ts : Codes) (ks : List ℕ) : Type 0 where
-  pub world : World s index figures l w
+pub record NodeAsks (d : Loaded) (place : ℕ) (b : List ℕ) (at left : ℕ) (l : Language) (given : Uses) (w : Loads) (k p : ℕ) (ts : Codes) (ks : List ℕ) : Type 0 where
+  pub world : World d.language.now d.index.now d.figures.now l w
   pub plain : Plain given
-  pub production : ProductionAt s figures place w k p ks
+  pub production : ProductionAt d.language.now d.figures.now place w k p ks
   pub typed : TypedAll l given ts ks
   pub stands : Stands b at (all_bytes ts)
   pub levels : levels_all ts ≤ left
@@ -102,11 +101,11 @@ pub record AddsLeaf (b : List ℕ) (at : ℕ) (factor : ℤ) (count : ℕ) (befo
   pub added : Added (leaf_form b at) factor count before after
 
 -- The places of a row were added, if each fits two bytes.
-pub record AddsRow (row : List ℤ) (factor : ℤ) (count : ℕ) (before after : List ℤ) (r : Bool) : Type 0 where
-  pub done : r ≡ true → ((j : ℕ) → j < count → is_figure (get_or row j (pos 0)) ≡ true) × Added (λ j. get_or row j (pos 0)) factor count before after
-  pub outside : r ≡ false → (j : ℕ) × (j < count) × (is_figure (get_or row j (pos 0)) ≡ false)
+pub record AddsRow (row : List ℤ) (factor : ℤ) (count : ℕ) (before after : List ℤ) (r : Option ⊤) : Type 0 where
+  pub done : (u : ⊤) → r ≡ Some u → ((j : ℕ) → j < count → is_figure (get_or row j (pos 0)) ≡ true) × Added (λ j. get_or row j (pos 0)) factor count before after
+  pub outside : r ≡ None → (j : ℕ) × (j < count) × (is_figure (get_or row j (pos 0)) ≡ false)
 
 -- The form of code u, which ends at `end`, was added, if each of its places fits two bytes at each production.
-pub record Adds (w : Loads) (u : Code) (factor : ℤ) (count : ℕ) (before after : List ℤ) (end : ℕ) (r : Formed) : Type 0 where
-  pub done : (e : ℕ) → r ≡ To e → (e ≡ end) × ((j : ℕ) → j < count → passes is_figure w u j ≡ true) × Added (form w u) factor count before after
-  pub outside : r ≡ Outside → (j : ℕ) × (j < count) × (passes is_figure w u j ≡ false)
+pub record Adds (w : Loads) (u : Code) (factor : ℤ) (count : ℕ) (before after : List ℤ) (end : ℕ) (r : Option ℕ) : Type 0 where
+  pub done : (e : ℕ) → r ≡ Some e → (e ≡ end) × ((j : ℕ) → j < count → passes is_figure w u j ≡ true) × Added (form w u) factor count before after
+  pub outside : r ≡ None → (j : ℕ) × (j < count) × (passes is_figure w u j ≡ false)

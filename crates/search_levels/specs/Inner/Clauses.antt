@@ -1,5 +1,5 @@
 -- A clause's code in the table matched with a tree in bytes: what the steps ask for and give.
-use Rattle.std.specs.Prelude.{ℕ, suc, ◌+◌, ◌<◌, ◌≤◌, ◌≡◌, Bool, true, false, cond, List, [], map, length, get_or, eqb}
+use Rattle.std.specs.Prelude.{ℕ, suc, ◌+◌, ◌<◌, ◌≤◌, ◌≡◌, Bool, true, false, cond, List, [], Option, None, Some, map, length, get_or, eqb}
 use Rattle.std.proofs.Math.Option.{some}
 use Rattle.format_language.specs.Language.{arguments_of, production_key}
 use Rattle.tree_reader.specs.Code.{Code, node, argument, Codes, cons}
@@ -40,11 +40,11 @@ pub record ArgumentAsks (target places bytes memory bound : List ℕ) (kind to i
   pub kind_is : kind ≡ mapped f.body (get_or ks i 0) 0
   pub lies : Lies f.target bytes to kind u
 
--- It is bound to that tree, up to r; or it is bound to another, where r is 0.
-pub record ArgumentGives (bytes after : List ℕ) (to i r : ℕ) (f : Translation) (ks : List ℕ) (b : ℕ → Goal) (u : Code) : Type 0 where
-  pub goes : (r ≡ 0 → ⊥)
-      → (r ≡ to + length (write tree u)) × (d : ℕ → Goal) × Bound f bytes after r ks d × ((cs us : Codes) → Alike b (cons (argument (suc i) 0) cs) (cons u us) d cs us)
-  pub stops : r ≡ 0 → (cs us : Codes) (s : Replacing) → Solves b (cons (argument (suc i) 0) cs) (cons u us) s → ⊥
+-- It is bound to that tree, up to e; or it is bound to another, where there is no e.
+pub record ArgumentGives (bytes after : List ℕ) (to i : ℕ) (r : Option ℕ) (f : Translation) (ks : List ℕ) (b : ℕ → Goal) (u : Code) : Type 0 where
+  pub goes : (e : ℕ) → r ≡ Some e
+      → (e ≡ to + length (write tree u)) × (d : ℕ → Goal) × Bound f bytes after e ks d × ((cs us : Codes) → Alike b (cons (argument (suc i) 0) cs) (cons u us) d cs us)
+  pub stops : r ≡ None → (cs us : Codes) (s : Replacing) → Solves b (cons (argument (suc i) 0) cs) (cons u us) s → ⊥
 
 -- How many bytes of the code stand for one step: a sign, and a name, an argument or a token of two bytes.
 unfoldable pub width : ℕ → ℕ
@@ -59,13 +59,13 @@ pub record StepAsks (table target places kinds bytes memory bound : List ℕ) (p
   pub is : Bound f bytes bound to ks b
   pub more : c < stop
 
--- What is left to compare is as good as what was; or there is no match, where r is 0.
-pub record StepGives (table bytes after : List ℕ) (c stop r : ℕ) (f : Translation) (ks : List ℕ) (cs us : Codes) (b : ℕ → Goal) : Type 0 where
-  pub goes : (r ≡ 0 → ⊥)
+-- What is left to compare, from e on, is as good as what was; or there is no match, where there is no e.
+pub record StepGives (table bytes after : List ℕ) (c stop : ℕ) (r : Option ℕ) (f : Translation) (ks : List ℕ) (cs us : Codes) (b : ℕ → Goal) : Type 0 where
+  pub goes : (e : ℕ) → r ≡ Some e
       → (js : List ℕ) × (es vs : Codes) × (d : ℕ → Goal)
-      × Pending table bytes (c + width (body_byte table c)) stop r f (map (mapping_of f.body) ks) js es vs
-      × Bound f bytes after r ks d × Alike b cs us d es vs
-  pub stops : r ≡ 0 → (s : Replacing) → Solves b cs us s → ⊥
+      × Pending table bytes (c + width (body_byte table c)) stop e f (map (mapping_of f.body) ks) js es vs
+      × Bound f bytes after e ks d × Alike b cs us d es vs
+  pub stops : r ≡ None → (s : Replacing) → Solves b cs us s → ⊥
 
 -- The clause of production p of kind k is matched with what is asked at a position; nothing is bound yet.
 pub record MatchAsks (table target places kinds bytes memory bound : List ℕ) (place clause at : ℕ) (f : Translation) (k p : ℕ) (ks : List ℕ) (g : Goal) : Type 0 where

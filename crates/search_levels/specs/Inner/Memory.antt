@@ -1,7 +1,7 @@
 -- The memory of a search by its bytes. For each position of the tree there are 36: four hold the kind of the tree that starts
 -- there, in five bits, and where it ends, in 27; then comes a byte for each source kind. And there are 32 bytes for trees of
 -- which nothing is asked.
-use Rattle.std.specs.Prelude.{ℕ, ◌+◌, ◌*◌, ◌/◌, ◌%◌, ◌<◌, ◌≡◌, ◌⊎◌, cond, List, length, get_or, set, leb}
+use Rattle.std.specs.Prelude.{ℕ, ◌+◌, ◌*◌, ◌/◌, ◌%◌, ◌<◌, ◌≡◌, ◌⊎◌, cond, List, Option, None, Some, length, get_or, set, leb}
 
 -- The kind and the end that are kept for a position.
 unfoldable pub kept_kind : (memory : List ℕ) (at : ℕ) → ℕ
@@ -12,10 +12,10 @@ kept_end memory at =
     get_or memory (at * 36) 0 % 8 * 16777216
     + (get_or memory (at * 36 + 1) 0 * 65536 + (get_or memory (at * 36 + 2) 0 * 256 + get_or memory (at * 36 + 3) 0))
 
--- What is said of an end that is looked up: 0 where none is kept for the kind.
-pub data Recalls (memory : List ℕ) (k at : ℕ) : ℕ → Type 0 where
-  nothing : Recalls memory k at 0
-  kept : {r : ℕ} → kept_kind memory at ≡ k → r ≡ kept_end memory at → Recalls memory k at r
+-- What is said of an end that is looked up: none where none is kept for the kind, and where 0 is.
+pub data Recalls (memory : List ℕ) (k at : ℕ) : Option ℕ → Type 0 where
+  nothing : Recalls memory k at None
+  kept : {r : ℕ} → kept_kind memory at ≡ k → r ≡ kept_end memory at → (r ≡ 0 → ⊥) → Recalls memory k at (Some r)
 
 -- The end of a tree was kept, or nothing was.
 pub record Keeps (before after : List ℕ) (k at end : ℕ) : Type 0 where

@@ -1,5 +1,5 @@
 -- What the search knows: the translation by its table and its indexes, the target tree in bytes, and its memory.
-use Rattle.std.specs.Prelude.{ℕ, suc, ◌+◌, ◌*◌, ◌<◌, ◌≤◌, ◌≡◌, ◌⊎◌, true, false, cond, List, length, get_or, leb}
+use Rattle.std.specs.Prelude.{ℕ, suc, ◌+◌, ◌*◌, ◌<◌, ◌≤◌, ◌≡◌, ◌⊎◌, true, false, cond, List, Option, None, Some, length, get_or, leb}
 use Rattle.std.proofs.Math.Option.{none, some}
 use Rattle.format_fields.specs.Fields.{pair_at}
 use Rattle.tree_reader.specs.Code.{Code, node, Codes}
@@ -32,6 +32,16 @@ pub record Unnamed (index : List ℕ) (k low high : ℕ) : Type 0 where
 -- A production of kind k has the name p, by the index of its language, where p is a name.
 pub record Named (index : List ℕ) (k p : ℕ) : Type 0 where
   pub there : p < 256 → 0 < get_or index (production_key k p) 0
+
+-- The name that was found is one that a production of kind k has.
+abbrev pub IsNamed : (index : List ℕ) (k : ℕ) → Option ℕ → Type 0
+IsNamed index k None = Unit {0}
+IsNamed index k (Some p) = (p < 256) × Named index k p
+
+-- How far names were looked through: up to the one that was found, or all of them.
+abbrev pub up_to : Option ℕ → ℕ
+up_to None = 256
+up_to (Some p) = p
 
 -- No tree for the goal g has a name from `low` up to `high`.
 pub record Without (l : Language) (f : Clauses) (k : ℕ) (g : Goal) (low high : ℕ) : Type 0 where

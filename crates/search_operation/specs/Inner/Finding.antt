@@ -1,7 +1,6 @@
 -- The parts of the search: what they ask for, and the last links of the chain of `ready`.
 use Rattle.std.specs.Prelude.{ℕ, ◌+◌, ◌<◌, ◌≡◌, true, not, List, length, get_or}
-use Rattle.outcome.specs.Outcome.{Result, value, refuse_if, ◌>>=◌, written, output_after}
-use Rattle.outcome.specs.declared.Outcome.{Outcome}
+use Rattle.outcome.specs.Outcome.{Result, value, refuse_if, ◌>>=◌, written, output_after, Outcome}
 use Rattle.outcome.specs.declared.Reason.TheVariants.{UnknownRoot, LimitOutOfRange}
 use Rattle.format_language.specs.Language.{is_in}
 use Rattle.tree_reader.specs.Code.{Code}
@@ -10,6 +9,7 @@ use Rattle.tree_reader.specs.Operations.{tree_of}
 use Rattle.format_translation.specs.Translation.{Translation, Body, mapped}
 use Rattle.tree_reader.specs.Inner.Index.{Built}
 use Rattle.run_table.specs.Inner.Table.{Checked, Ready}
+use Rattle.search_levels.specs.declared.searched.Searched.{Searched}
 use Rattle.search_levels.specs.Inner.Setting.{Unnamed}
 use Rattle.format_translation.specs.Plain.{plain}
 use Rattle.format_translation.specs.Inner.ItemIndex.{Mapped as UsesOf}
@@ -61,6 +61,10 @@ pub record Opened (table source target places kinds bytes : List ℕ) (k : ℕ) 
   pub placed : Placed target places bytes k f u
   pub maps : Mapped kinds f.body
   pub lowest : (j : ℕ) → j < 32 → Unnamed table j 0 (get_or kinds (32 + j) 0)
+
+-- The same, of what is searched as one record.
+abbrev pub OpenedIn : Searched → (k : ℕ) → Translation → Code → Type 0
+OpenedIn s k f u = Opened s.table.now s.source.now s.target.now s.places.now s.kinds.now s.tree.now k f u
 
 -- What is asked of tree and limit, in a translation that is searchable, for a source kind that is in it: 15, 16, 24. The last
 -- links of the chain of `ready`.

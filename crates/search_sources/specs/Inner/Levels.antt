@@ -1,5 +1,5 @@
 -- The least levels at which there is a tree for a goal: a number up to m, or m + 1 where m levels do not suffice.
-use Rattle.std.specs.Prelude.{ℕ, suc, ◌+◌, ◌-◌, ◌≤◌, ◌<◌, cond, List, eqb, leb}
+use Rattle.std.specs.Prelude.{ℕ, suc, ◌+◌, ◌-◌, ◌≤◌, ◌<◌, cond, List, Option, None, Some, eqb, leb}
 use Rattle.format_language.specs.Language.{Language}
 use Rattle.tree_reader.specs.Code.{Code, node, Codes}
 use Rattle.format_translation.specs.Running.{Clauses}
@@ -32,10 +32,10 @@ pub record Says (l : Language) (f : Clauses) (k : ℕ) (g : Goal) (b : ℕ) : Ty
   pub number : 1 ≤ b → b ≤ 17 → Needs l f most_levels k g (b - 1)
   pub above : 18 ≤ b → (t : Code) → Fits l f (b - 18) k g t → ⊥
 
--- The number where m levels count, by a byte; 255 where it does not say.
-unfoldable pub recalled : ℕ → ℕ → ℕ
+-- The number where m levels count, by a byte; none where it does not say.
+unfoldable pub recalled : ℕ → ℕ → Option ℕ
 recalled m b =
-    cond (eqb b 0) 255 (cond (leb b 17) (cond (leb b (m + 1)) (b - 1) (m + 1)) (cond (leb (m + 18) b) (m + 1) 255))
+    cond (eqb b 0) None (cond (leb b 17) (cond (leb b (m + 1)) (Some (b - 1)) (Some (m + 1))) (cond (leb (m + 18) b) (Some (m + 1)) None))
 
 -- The byte to keep for a number that was worked out where m levels count.
 unfoldable pub noted : ℕ → ℕ → ℕ

@@ -1,6 +1,8 @@
 -- The old index in parts, and what the functions that move it ask for and give.
-use Rattle.std.specs.Prelude.{ℕ, ◌+◌, ◌-◌, ◌<◌, ◌≤◌, ◌≡◌, true, cond, List, [], ◌∷◌, ◌++◌, map, length, drop, leb, ltb}
+use Rattle.std.specs.Prelude.{ℕ, ◌+◌, ◌-◌, ◌<◌, ◌≤◌, ◌≡◌, true, cond, List, [], ◌∷◌, ◌++◌, map, length, drop, leb, ltb, Ok, Err}
+use Rattle.std.specs.Prelude.{Result as Answered}
 use Rattle.outcome.specs.Outcome.{Result, ◌>>=◌}
+use Rattle.outcome.specs.declared.Reason.{Reason}
 use Rattle.format_language.specs.Language.{Language, is_in}
 use Rattle.tree_reader.specs.Code.{Code}
 use Rattle.tree_reader.specs.Syntax.{write, tree}
@@ -14,6 +16,7 @@ use Rattle.tree_block.specs.Inner.Descent.{Along}
 use Rattle.tree_edit.specs.Operations.{new_block, new_plan, in_rooms, handed_back}
 use Rattle.tree_edit.specs.Answers.{Hands}
 use Rattle.tree_edit.specs.declared.edit.Edited.{Edited}
+use Rattle.tree_edit.specs.declared.edit.Lengths.{Lengths}
 
 -- Where a node outside of the block stands after the block, which starts at `start`, got another length: behind the block its
 -- start is shifted, around the block its length is changed, before the block it stays.
@@ -101,6 +104,11 @@ abbrev pub path_in : (plan index : ℕ) → Language → (path : List ℕ) → R
 path_in plan index l path d block t =
     (found d >>= λ b. new_block l path b block >>= λ u. new_plan path u t) >>= λ v. in_rooms plan index v
 
--- The answer and the outputs that are left are those of a result.
-abbrev pub Gives : Result Code → (plan plan' index index' : List ℕ) → Edited → Type 0
-Gives result plan plan' index index' r = Hands (handed_back plan index result) plan' index' r
+-- What is answered of a new plan that is put, by the lengths of plan and index, and of a refusal.
+abbrev pub edited : Answered Lengths Reason → Edited
+edited (Ok n) = record { outcome = Ok n.plan; indexed = n.index }
+edited (Err e) = record { outcome = Err e; indexed = 0 }
+
+-- The lengths or the refusal, and the outputs that are left, are those of a result.
+abbrev pub Gives : Result Code → (plan plan' index index' : List ℕ) → Answered Lengths Reason → Type 0
+Gives result plan plan' index index' r = Hands (handed_back plan index result) plan' index' (edited r)

@@ -1,9 +1,8 @@
 -- The masked form of what stands in bytes, put into an output as far as it has room.
 use Rattle.std.specs.Prelude.{ℕ, ◌+◌, ◌≤◌, ◌≡◌, List, [], length, drop}
 use Rattle.std.proofs.Math.Seq.{slice}
-use Rattle.outcome.specs.Outcome.{◌>>=◌}
+use Rattle.outcome.specs.Outcome.{◌>>=◌, Outcome}
 use Rattle.format_fields.specs.Inner.Writing.{spliced}
-use Rattle.outcome.specs.declared.Outcome.{Outcome}
 use Rattle.format_language.specs.Language.{Language}
 use Rattle.tree_reader.specs.Code.{Code, Codes}
 use Rattle.tree_reader.specs.Syntax.{done, read, read_all, tree}

@@ -1,7 +1,6 @@
 -- What an operation answers and leaves.
 use Rattle.std.specs.Prelude.{ℕ, List, [], length}
-use Rattle.outcome.specs.Outcome.{◌>>=◌}
-use Rattle.outcome.specs.declared.Outcome.{Outcome}
+use Rattle.outcome.specs.Outcome.{◌>>=◌, Outcome}
 use Rattle.format_language.specs.Language.{Language}
 use Rattle.tree_reader.specs.Syntax.{read, write, tree}
 use Rattle.tree_reader.specs.Operations.{tree_levels, whole_tree}

@@ -1,6 +1,5 @@
 -- The export of what stands in bytes, written into an output that has room for it.
 use Rattle.std.specs.Prelude.{ℕ, ◌+◌, ◌≤◌, ◌≡◌, List, [], length, drop}
-use Rattle.std.proofs.Math.Seq.{slice}
 use Rattle.format_fields.specs.Inner.Writing.{Written}
 use Rattle.format_language.specs.Language.{Language}
 use Rattle.tree_reader.specs.Code.{Code, Codes}
@@ -14,11 +13,11 @@ pub record TreeAsks (s index : List ℕ) (k : ℕ) (b : List ℕ) (at levels roo
   pub reads : read tree l [] levels k (drop at b) ≡ done a rest
   pub fits : n + length (export l k a) ≤ room
 
--- The trees t stand at `at`, before `rest`; their kinds stand in `kinds` from q up to e. Their exports have room from n on.
-pub record TreesAsk (kinds s index : List ℕ) (q e : ℕ) (b : List ℕ) (at levels room n : ℕ) (l : Language) (t : Codes) (rest : List ℕ) : Type 0 where
+-- The trees t of the kinds stand at `at`, before `rest`, and their exports have room from n on.
+pub record TreesAsk (kinds s index b : List ℕ) (at levels room n : ℕ) (l : Language) (t : Codes) (rest : List ℕ) : Type 0 where
   pub indexed : Indexed index s l
-  pub reads : read_all (read tree l [] levels) (slice q e kinds) (drop at b) ≡ done t rest
-  pub fits : n + length (export_all l (slice q e kinds) t) ≤ room
+  pub reads : read_all (read tree l [] levels) kinds (drop at b) ≡ done t rest
+  pub fits : n + length (export_all l kinds t) ≤ room
 
 -- The text v, of what stands in b before `rest`, was written over the output o from n up to m; `rest` stands from e on.
 pub record Exported (v b rest o o' : List ℕ) (n e m : ℕ) : Type 0 where

@@ -1,9 +1,7 @@
 -- The bytes of a tree, in the order in which its export holds them.
-use Rattle.std.specs.Prelude.{ℕ, ◌+◌, ◌<◌, ◌≤◌, ◌≡◌, true, false, List, [], ◌∷◌, ◌++◌, length, get_or, drop, eqb}
+use Rattle.std.specs.Prelude.{ℕ, ◌+◌, ◌<◌, ◌≤◌, ◌≡◌, true, false, List, [], ◌∷◌, ◌++◌, length, get_or, drop, eqb, Option, Some, None}
 use Rattle.format_fields.specs.Fields.{two_bytes}
 use Rattle.format_fields.specs.Inner.Writing.{Written}
-use Rattle.check_operations.specs.declared.put.Step.{Step}
-use Rattle.check_operations.specs.declared.put.Step.TheVariants.{To, Full}
 use Rattle.format_fields.specs.Decimal.{decimal}
 use Rattle.xml_text.specs.Text.{open_node, close_node, open_token, close_token, node_tag, token_tag}
 
@@ -43,7 +41,7 @@ pub record Written-to (v text o o' : List ℕ) (n e m : ℕ) : Type 0 where
   pub put : Written first o o' n m
 
 -- The answer r, where what stands at `at` is written from n on over the output o, and o' is left.
-pub record Takes (text : List ℕ) (at : ℕ) (o o' : List ℕ) (n : ℕ) (r : Step) : Type 0 where
-  pub inside : (e m : ℕ) → r ≡ To e m → (at < e) × (e ≤ length text) × (m ≤ length o)
-  pub next : (e m : ℕ) → r ≡ To e m → (v : List ℕ) → Contents (drop at text) v → n + length v ≤ length o → Written-to v text o o' n e m
-  pub full : r ≡ Full → (v : List ℕ) → Contents (drop at text) v → length o < n + length v
+pub record Takes (text : List ℕ) (at : ℕ) (o o' : List ℕ) (n : ℕ) (r : Option (ℕ × ℕ)) : Type 0 where
+  pub inside : (e m : ℕ) → r ≡ Some (e, m) → (at < e) × (e ≤ length text) × (m ≤ length o)
+  pub next : (e m : ℕ) → r ≡ Some (e, m) → (v : List ℕ) → Contents (drop at text) v → n + length v ≤ length o → Written-to v text o o' n e m
+  pub full : r ≡ None → (v : List ℕ) → Contents (drop at text) v → length o < n + length v

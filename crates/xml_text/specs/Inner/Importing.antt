@@ -1,5 +1,7 @@
 -- The tree that a text is the export of.
-use Rattle.std.specs.Prelude.{ℕ, zero, suc, ◌+◌, ◌<◌, ◌≤◌, ◌≡◌, cond, List, [], ◌∷◌, length, drop, get_or, ltb}
+use Rattle.std.specs.Prelude.{ℕ, zero, suc, ◌+◌, ◌<◌, ◌≤◌, ◌≡◌, cond, List, [], ◌∷◌, length, drop, get_or, ltb, Option, Some, None, Result, Ok, Err}
+use Rattle.outcome.specs.declared.Reason.{Reason}
+use Rattle.outcome.specs.declared.Reason.TheVariants.{TooDeep, NotAnExport}
 use Rattle.format_language.specs.Language.{Language, production_key}
 use Rattle.tree_reader.specs.Syntax.{Read, done, deep, broken}
 use Rattle.format_fields.specs.Fields.{pair_at}
@@ -7,20 +9,28 @@ use Rattle.tree_reader.specs.Code.{Code}
 use Rattle.tree_reader.specs.Inner.Index.{Indexed}
 use Rattle.tree_reader.specs.Inner.Positions.{KindsIn}
 use Rattle.xml_text.specs.Import.{read_opening, read_element, read_text}
-use Rattle.xml_text.specs.declared.import.Element.{Element}
-use Rattle.xml_text.specs.declared.import.Element.TheVariants.{Of, Nothing}
-use Rattle.xml_text.specs.declared.import.Text.{Text}
-use Rattle.xml_text.specs.declared.import.Text.TheVariants.{End, Deep, Broken}
+use Rattle.tree_reader.specs.declared.operands.Operands.{Operands}
+use Rattle.xml_text.specs.declared.import.TextError.{TextError}
+use Rattle.xml_text.specs.declared.import.TextError.TheVariants.{Deep, Broken}
+
+-- Where the text of a tree ends, or why it is not read.
+abbrev pub Text : Type 0
+Text = Result ℕ TextError
+
+-- Why import refuses what is not read.
+abbrev pub reason_of : TextError → Reason
+reason_of Deep = TooDeep
+reason_of Broken = NotAnExport
 
 -- A position that was reached lies in the text.
 abbrev pub Inside : List ℕ → Text → Type 0
-Inside text r = (e : ℕ) → r ≡ End e → e ≤ length text
+Inside text r = (e : ℕ) → r ≡ Ok e → e ≤ length text
 
 -- The answer r says what the reading p comes to.
 pub record Imports {A : Type 0} (p : Read A) (text : List ℕ) (r : Text) : Type 0 where
-  pub found : (e : ℕ) → r ≡ End e → (a : A) × (p ≡ done a (drop e text))
-  pub deep : r ≡ Deep → p ≡ deep
-  pub broken : r ≡ Broken → p ≡ broken
+  pub found : (e : ℕ) → r ≡ Ok e → (a : A) × (p ≡ done a (drop e text))
+  pub deep : r ≡ Err Deep → p ≡ deep
+  pub broken : r ≡ Err Broken → p ≡ broken
 
 -- The tree of kind k at `at`, with so many levels left.
 abbrev pub ImportsTree : List ℕ → List ℕ → ℕ → List ℕ → ℕ → ℕ → Text → Type 0
@@ -54,6 +64,6 @@ pub record OpensElement (s index : List ℕ) (k : ℕ) (text : List ℕ) (at q e
   pub kinds : KindsIn s q e
 
 -- The answer r says whether there is one.
-pub record Elements (s index : List ℕ) (k : ℕ) (text : List ℕ) (at : ℕ) (r : Element) : Type 0 where
-  pub found : (q e a : ℕ) → r ≡ Of q e a → OpensElement s index k text at q e a
-  pub nothing : r ≡ Nothing → (l : Language) → Indexed index s l → (reads : ℕ → List ℕ → Read Code) → read_element reads l k (drop at text) ≡ broken
+pub record Elements (s index : List ℕ) (k : ℕ) (text : List ℕ) (at : ℕ) (r : Option (Operands × ℕ)) : Type 0 where
+  pub found : (o : Operands) (a : ℕ) → r ≡ Some (o, a) → OpensElement s index k text at o.first o.last a
+  pub nothing : r ≡ None → (l : Language) → Indexed index s l → (reads : ℕ → List ℕ → Read Code) → read_element reads l k (drop at text) ≡ broken

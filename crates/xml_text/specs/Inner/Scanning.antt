@@ -1,14 +1,10 @@
 -- What stands at a position of a text.
-use Rattle.std.specs.Prelude.{ℕ, ◌+◌, ◌-◌, ◌<◌, ◌≤◌, ◌≡◌, Bool, true, false, List, [], ◌∷◌, ◌++◌, length, take, drop}
+use Rattle.std.specs.Prelude.{ℕ, ◌+◌, ◌-◌, ◌<◌, ◌≤◌, ◌≡◌, Bool, true, false, List, [], ◌∷◌, ◌++◌, length, take, drop, Option, Some, None}
 use Rattle.format_language.specs.Language.{Range}
 use Rattle.tree_reader.specs.Code.{Code, token}
 use Rattle.tree_reader.specs.Syntax.{Read, done, deep, broken}
 use Rattle.format_fields.specs.Decimal.{decimal}
 use Rattle.xml_text.specs.Import.{read_token}
-use Rattle.xml_text.specs.declared.scan.Place.{Place}
-use Rattle.xml_text.specs.declared.scan.Place.TheVariants.{At, Nothing}
-use Rattle.xml_text.specs.declared.scan.Number.{Number}
-use Rattle.xml_text.specs.declared.scan.Number.TheVariants as N
 
 -- A position that was reached lies in the text, and not before `from`.
 pub record Reached (text : List ℕ) (from e : ℕ) : Type 0 where
@@ -16,10 +12,10 @@ pub record Reached (text : List ℕ) (from e : ℕ) : Type 0 where
   pub inside : e ≤ length text
 
 -- The answer r says what the reading o comes to.
-pub record Stands (o : Read (Unit {0})) (text : List ℕ) (from : ℕ) (r : Place) : Type 0 where
-  pub found : (e : ℕ) → r ≡ At e → o ≡ done tt (drop e text)
-  pub reached : (e : ℕ) → r ≡ At e → Reached text from e
-  pub nothing : r ≡ Nothing → o ≡ broken
+pub record Stands (o : Read (Unit {0})) (text : List ℕ) (from : ℕ) (r : Option ℕ) : Type 0 where
+  pub found : (e : ℕ) → r ≡ Some e → o ≡ done tt (drop e text)
+  pub reached : (e : ℕ) → r ≡ Some e → Reached text from e
+  pub nothing : r ≡ None → o ≡ broken
 
 -- What an opening tag begins with: "<", a sign, a kind, and the byte behind it.
 unfoldable pub begins : ℕ → ℕ → ℕ → List ℕ
@@ -36,18 +32,18 @@ NoNumber deep = ⊥
 NoNumber broken = Unit {0}
 
 -- The answer r says what the reading o of a number comes to; there is none above 65,535 that is wanted.
-pub record Numbers (o : Read ℕ) (text : List ℕ) (from : ℕ) (r : Number) : Type 0 where
-  pub found : (v e : ℕ) → r ≡ N.Is v e → o ≡ done v (drop e text)
-  pub small : (v e : ℕ) → r ≡ N.Is v e → v < 65536
-  pub reached : (v e : ℕ) → r ≡ N.Is v e → Reached text from e
-  pub nothing : r ≡ N.Nothing → NoNumber o
+pub record Numbers (o : Read ℕ) (text : List ℕ) (from : ℕ) (r : Option (ℕ × ℕ)) : Type 0 where
+  pub found : (v e : ℕ) → r ≡ Some (v, e) → o ≡ done v (drop e text)
+  pub small : (v e : ℕ) → r ≡ Some (v, e) → v < 65536
+  pub reached : (v e : ℕ) → r ≡ Some (v, e) → Reached text from e
+  pub nothing : r ≡ None → NoNumber o
 
 -- The answer r says what the reading o of a token comes to.
-pub record Tokens (o : Read Code) (text : List ℕ) (from : ℕ) (r : Number) : Type 0 where
-  pub found : (v e : ℕ) → r ≡ N.Is v e → o ≡ done (token v) (drop e text)
-  pub small : (v e : ℕ) → r ≡ N.Is v e → v < 65536
-  pub reached : (v e : ℕ) → r ≡ N.Is v e → Reached text from e
-  pub nothing : r ≡ N.Nothing → o ≡ broken
+pub record Tokens (o : Read Code) (text : List ℕ) (from : ℕ) (r : Option (ℕ × ℕ)) : Type 0 where
+  pub found : (v e : ℕ) → r ≡ Some (v, e) → o ≡ done (token v) (drop e text)
+  pub small : (v e : ℕ) → r ≡ Some (v, e) → v < 65536
+  pub reached : (v e : ℕ) → r ≡ Some (v, e) → Reached text from e
+  pub nothing : r ≡ None → o ≡ broken
 
 -- No token of a class stands at `at`.
 abbrev pub NoToken : List ℕ → ℕ → Type 0

@@ -5,10 +5,10 @@ use Rattle.check_operations.proofs.TranslationChain.{over_refused, over_none, br
 use Rattle.check_operations.proofs.translations.check_kept.Goals as goal
 
 pub returns-then-over_limit : goal.returns-then-over_limit
-returns-then-over_limit c = record { is = over_refused _ _ c.over_limit.ensures c.if-over_limit.true c.refuse.ensures; kept = (c.requires.0, λ f e. over_none _ _ c.over_limit.ensures c.if-over_limit.true f e) }
+returns-then-over_limit c = record { is = over_refused _ _ c.over_limit.ensures c.if-over_limit.true refl; kept = (c.requires.0, λ f e. over_none _ _ c.over_limit.ensures c.if-over_limit.true f e) }
 
 pub returns-then-not-parts_whole : goal.returns-then-not-parts_whole
-returns-then-not-parts_whole c = record { is = broken_refused _ _ c.over_limit.ensures c.if-over_limit.false _ c.parts_whole.ensures (c.if-not-parts_whole.true) c.refuse-then-not-parts_whole.ensures; kept = (c.requires.0, λ f e. broken_none _ _ c.over_limit.ensures c.if-over_limit.false _ c.parts_whole.ensures (c.if-not-parts_whole.true) f e) }
+returns-then-not-parts_whole c = record { is = broken_refused _ _ c.over_limit.ensures c.if-over_limit.false _ c.parts_whole.ensures (c.if-not-parts_whole.true) refl; kept = (c.requires.0, λ f e. broken_none _ _ c.over_limit.ensures c.if-over_limit.false _ c.parts_whole.ensures (c.if-not-parts_whole.true) f e) }
 
 pub whole_end-a-requires : goal.whole_end-a-requires
 whole_end-a-requires c = (heads_in _ _ refl (parts_there _ _ c.over_limit.ensures c.if-over_limit.false _ c.parts_whole.ensures (c.if-not-parts_whole.false))).0

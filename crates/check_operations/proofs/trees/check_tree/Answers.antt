@@ -4,6 +4,3 @@ use Rattle.check_operations.proofs.trees.check_tree.Goals as goal
 
 pub check_indexed-requires : goal.check_indexed-requires
 check_indexed-requires c = (refl, zeros 8224)
-
-pub returns : goal.returns
-returns c = c.check_indexed.ensures.0

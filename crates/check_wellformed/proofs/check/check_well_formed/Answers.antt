@@ -1,7 +1,6 @@
 use native.Mathlib.Omega.{arith}
 use mathlib.Core.Path.{refl}
 use Rattle.tree_reader.proofs.Lookup.{zeros}
-use Rattle.check_wellformed.proofs.Kept.{own_ready}
 use Rattle.check_wellformed.proofs.check.check_well_formed.Goals as goal
 
 pub build-requires : goal.build-requires
@@ -9,9 +8,3 @@ build-requires c = (c.requires.1.target_short, refl, zeros 8224)
 
 pub fill_uses-requires : goal.fill_uses-requires
 fill_uses-requires c = let p = c.requires.1 in let h = p.body_short in (omega (arith, h), refl, zeros 8200, (_, p.body))
-
-pub check_conditions-requires : goal.check_conditions-requires
-check_conditions-requires c = (_, own_ready _ _ _ _ _ c.build.ensures c.fill_uses.ensures.0 c.fill_uses.ensures.1 _ c.requires.1 c.requires.2)
-
-pub returns : goal.returns
-returns c = λ f p h. (c.check_conditions.ensures f (own_ready _ _ _ _ _ c.build.ensures c.fill_uses.ensures.0 c.fill_uses.ensures.1 f p h)).0

@@ -1,21 +1,11 @@
 use native.Mathlib.Omega.{arith}
-use Prim.Native.Nat.{◌-◌}
 use Rattle.format_fields.proofs.Places.{every_here}
 use Rattle.format_translation.proofs.Whole.{item_long}
-use Rattle.check_wellformed.proofs.Matching.{clear_start, clear_done, clear_past, clear_short, clear_other, clear_next, order_least}
+use Rattle.check_wellformed.proofs.Matching.{clear_done, clear_past, clear_short, clear_other, clear_next, order_least}
 use Rattle.check_wellformed.proofs.clauses.clauses_end.Goals as goal
-
-pub overflow_mul-first : goal.overflow_mul-first
-overflow_mul-first c = omega (arith, c.requires.0.below)
-
-pub loop-at-init : goal.loop-at-init
-loop-at-init c = clear_start _ _ _ _ _ c.requires.0
 
 pub order_at-order-requires : goal.order_at-order-requires
 order_at-order-requires c = item_long _ _ (every_here _ _ _ c.loop-at.invariant.asked.mappings c.loop-at-test.true).0
-
-pub overflow_add-first : goal.overflow_add-first
-overflow_add-first c = omega (arith, c.requires.0.below)
 
 pub returns-then-first-order : goal.returns-then-first-order
 returns-then-first-order c = clear_past _ (λ i. omega (arith, c.type_inv.body i)) _ _ _ _ _ _ c.loop-at.invariant c.loop-at-test.true _ c.order_at-order.ensures.0 c.if-first-order.true
@@ -26,14 +16,8 @@ returns-then-body-to c = clear_short _ (λ i. omega (arith, c.type_inv.body i)) 
 pub order_at-requires : goal.order_at-requires
 order_at-requires c = item_long _ _ (every_here _ _ _ c.loop-at.invariant.asked.clauses c.if-body-to.false).0
 
-pub overflow_mul-key : goal.overflow_mul-key
-overflow_mul-key c = omega (arith, c.requires.1)
-
 pub overflow_sub-order : goal.overflow_sub-order
 overflow_sub-order c = order_least _ (λ i. omega (arith, c.type_inv.body i)) _ _ _ _ _ _ c.loop-at.invariant c.loop-at-test.true _ c.order_at-order.ensures.0
-
-pub overflow_add-key : goal.overflow_add-key
-overflow_add-key c = omega (arith, c.requires.1, c.order_at-order.ensures.1)
 
 pub returns-then-order_at-key : goal.returns-then-order_at-key
 returns-then-order_at-key c = clear_other _ (λ i. omega (arith, c.type_inv.body i)) _ _ _ _ _ _ c.loop-at.invariant c.loop-at-test.true _ c.order_at-order.ensures.0 c.if-first-order.false c.if-body-to.false _ c.order_at.ensures.0 c.if-order_at-key.true

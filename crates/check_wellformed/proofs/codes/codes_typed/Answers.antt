@@ -1,8 +1,6 @@
 use native.Mathlib.Omega.{arith}
 use borrow.Author.Rules.{rules}
-use Prim.Native.Nat.{◌-◌}
 use mathlib.Core.Path.{refl}
-use mathlib.Core.Bool.{true}
 use Rattle.format_fields.proofs.Places.{every_here, every_after, every_done, every_stop, every_next}
 use Rattle.check_wellformed.proofs.Coded.{clause_at_lem, clause_long}
 use Rattle.check_wellformed.proofs.Matching.{source_long, body_order}
@@ -10,13 +8,13 @@ use Rattle.check_wellformed.proofs.Along.{along_clauses, along_long, clause_besi
 use Rattle.check_wellformed.proofs.codes.codes_typed.Goals as goal
 
 pub loop-to-init : goal.loop-to-init
-loop-to-init c = (λ f z. z, c.requires.0, λ f z. refl, refl, along_clauses _ _ _ _ c.requires.1 c.requires.2 (body_order _ _ _ _ _ _ c.requires.3.1 (λ i. omega (arith, c.type_inv.source i)) (λ i. omega (arith, c.type_inv.body i))))
+loop-to-init c = (λ f z. z, c.requires.0, λ f z. refl, refl, along_clauses _ _ _ _ c.requires.1 c.requires.2 (body_order _ _ _ _ _ _ c.requires.3.1 c.args.parts.now.source_bytes c.args.parts.now.body_bytes))
 
 pub whole_key-requires : goal.whole_key-requires
 whole_key-requires c = let k = clause_long _ _ (clause_at_lem _ _ (every_here _ _ _ c.loop-to.invariant.1 c.loop-to-test.true).0) in omega (arith, k)
 
 pub skip_below-from-requires : goal.skip_below-from-requires
-skip_below-from-requires c = along_long _ _ _ _ c.loop-to.invariant.4 (source_long _ _ _ _ _ _ c.requires.3.1 (λ i. omega (arith, c.type_inv.source i)) (λ i. omega (arith, c.type_inv.body i)))
+skip_below-from-requires c = along_long _ _ _ _ c.loop-to.invariant.4 (source_long _ _ _ _ _ _ c.requires.3.1 c.args.parts.now.source_bytes c.args.parts.now.body_bytes)
 
 pub whole_end-e-requires : goal.whole_end-e-requires
 whole_end-e-requires c = let k = clause_long _ _ (clause_at_lem _ _ (every_here _ _ _ c.loop-to.invariant.1 c.loop-to-test.true).0) in omega (arith, k)

@@ -1,16 +1,11 @@
 use borrow.Author.Rules.{rules}
 use native.Mathlib.Omega.{arith}
-use Prim.Native.Nat.{◌-◌}
-use mathlib.Core.Path.{refl, ◌∙◌}
-use mathlib.Core.Bool.{true}
+use mathlib.Core.Path.{◌∙◌}
 use Rattle.format_fields.proofs.Places.{every_here}
 use Rattle.check_wellformed.proofs.Marked.{entries_marked, entries_mark}
 use Rattle.format_language.proofs.Facts.{entry_kind}
 use Rattle.format_translation.proofs.Whole.{entries_on}
 use Rattle.check_wellformed.proofs.kinds.mark_entries.Goals as goal
-
-pub loop-p-init : goal.loop-p-init
-loop-p-init c = (refl, c.requires.0, refl)
 
 pub whole_end-e-requires : goal.whole_end-e-requires
 whole_end-e-requires c = let k = entry_kind _ _ (every_here _ _ _ c.loop-p.invariant.1 c.loop-p-test.true).0 in omega (arith, k.0)

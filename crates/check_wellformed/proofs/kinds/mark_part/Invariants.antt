@@ -1,13 +1,12 @@
-use Prim.Native.Nat.{◌-◌}
 use mathlib.Core.Path.{◌≡◌}
-use lib.ListN.{length}
-use lib.Seq.{slice}
-use Rattle.tree_reader.specs.Inner.Positions.{KindsIn}
+use mathlib.Core.Bool.{true}
+use lib.ListN.{length, drop}
+use Rattle.format_fields.specs.Lists.{all}
+use Rattle.format_language.specs.LanguageFile.{is_kind}
 use Rattle.check_wellformed.specs.Inner.Tests.{mark_all}
 use Rattle.check_wellformed.proofs.kinds.mark_part.Given as goal
 
-abbrev pub invariant-loop-q : goal.invariant-loop-q
-invariant-loop-q l = (length l.kinds ≡ length l.initial.kinds) × KindsIn l.s l.q l.e × (mark_all l.kinds (slice l.q l.e l.s) ≡ mark_all l.initial.kinds (slice l.p l.e l.s))
-
-abbrev pub decreases-loop-q : goal.decreases-loop-q
-decreases-loop-q l = l.e - l.q
+abbrev pub invariant-loop-kind : goal.invariant-loop-kind
+invariant-loop-kind l =
+    (length l.kinds ≡ length l.initial.kinds) × (all is_kind (drop l.kind-index l.part) ≡ true)
+    × (mark_all l.kinds (drop l.kind-index l.part) ≡ mark_all l.initial.kinds l.part)

@@ -1,20 +1,10 @@
-use Prim.Native.Nat.{◌-◌}
-use mathlib.Core.Path.{refl}
+use mathlib.Core.Path.{refl, ◌∙◌}
+use borrow.Author.Rules.{rules}
+use Rattle.std.proofs.lemmas.Iterator.{YieldsList-from_range}
+use Rattle.std.proofs.lemmas.Iterator.Search.{all_from_yields_List}
 use Rattle.check_wellformed.specs.Inner.Tests.{mapped_if}
-use Rattle.check_wellformed.proofs.Mappings.{count_done, count_stop, count_next}
+use Rattle.check_wellformed.proofs.Mappings.{all_kinds}
 use Rattle.check_wellformed.proofs.mapping.kinds_mapped.Goals as goal
 
-pub loop-k-init : goal.loop-k-init
-loop-k-init c = refl
-
-pub mapped_if-requires : goal.mapped_if-requires
-mapped_if-requires c = (c.loop-k-test.true, c.requires.0, c.requires.1)
-
-pub returns-then-not-mapped_if : goal.returns-then-not-mapped_if
-returns-then-not-mapped_if c = count_stop _ _ _ c.loop-k.invariant c.loop-k-test.true _ c.mapped_if.ensures (c.if-not-mapped_if.true)
-
-pub loop-k-preserved : goal.loop-k-preserved
-loop-k-preserved c = count_next _ _ _ c.loop-k.invariant c.loop-k-test.true _ c.mapped_if.ensures (c.if-not-mapped_if.false)
-
 pub returns : goal.returns
-returns c = count_done _ _ _ c.loop-k.invariant c.loop-k-test.false
+returns c = all_from_yields_List (mapped_if c.args.uses.now c.args.kinds.now) _ _ _ c.all.ensures.ran (YieldsList-from_range 0 32 32 refl refl) (λ x b q k. search rules) ∙ all_kinds (mapped_if c.args.uses.now c.args.kinds.now)

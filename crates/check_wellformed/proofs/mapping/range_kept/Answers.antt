@@ -1,15 +1,11 @@
-use native.Mathlib.Omega.{arith}
 use Rattle.check_wellformed.proofs.Mappings.{range_free, range_none, range_there}
 use Rattle.check_wellformed.proofs.mapping.range_kept.Goals as goal
 
-pub returns-then-place-eq0 : goal.returns-then-place-eq0
-returns-then-place-eq0 c = range_free _ _ _ _ c.if-place-eq0.true
+pub returns-in_default : goal.returns-in_default
+returns-in_default c = range_free _ _ _ _ c.in_default.is
 
-pub returns-then-goal-eq0 : goal.returns-then-goal-eq0
-returns-then-goal-eq0 c = range_none _ _ _ _ c.if-place-eq0.false c.if-goal-eq0.true
-
-pub range_within-requires : goal.range_within-requires
-range_within-requires c = (c.requires.0 (omega arith), c.requires.1 (omega arith))
+pub returns-in_default-goal : goal.returns-in_default-goal
+returns-in_default-goal c = range_none _ _ _ _ c.in-Some.is c.in_default-goal.is
 
 pub returns : goal.returns
-returns c = range_there _ _ _ _ c.if-place-eq0.false c.if-goal-eq0.false _ c.range_within.ensures
+returns c = range_there _ _ _ _ c.in-Some.is c.in-Some-goal.is c.range_within.ensures

@@ -1,13 +1,10 @@
 use native.Mathlib.Omega.{arith}
 use lib.Seq.{slice}
-use Rattle.format_fields.proofs.Splices.{both_full, both_then}
+use Rattle.format_fields.proofs.Splices.{both_then}
 use Rattle.format_fields.proofs.copy.put_both.Goals as goal
 
-pub returns-in_default : goal.returns-in_default
-returns-in_default c = both_full (slice c.args.p c.args.e c.args.s.now) (slice c.args.q c.args.d c.args.t.now) c.args.out.now _ c.args.n _ c.put.ensures c.in_default.is
-
 pub put-requires-2 : goal.put-requires-2
-put-requires-2 c = (c.requires.1.0, omega (arith, (c.put.ensures.done _ c.in-To.is).fits, c.put.auto.out))
+put-requires-2 c = (c.requires.1.0, omega (arith, (c.put.ensures.done _ c.in_ok-m.was).fits, c.put.auto.out))
 
 pub returns : goal.returns
-returns c = both_then (slice c.args.p c.args.e c.args.s.now) (slice c.args.q c.args.d c.args.t.now) c.args.out.now _ c.args.n _ c.put.ensures _ c.in-To.is _ _ c.put.auto.out c.put-2.ensures
+returns c = both_then (slice c.args.p c.args.e c.args.s.now) (slice c.args.q c.args.d c.args.t.now) c.args.out.now _ c.args.n _ c.put.ensures _ c.in_ok-m.was _ _ c.put.auto.out c.put-2.ensures

@@ -13,4 +13,4 @@ pub returns-then-pair_in-lt3 : goal.returns-then-pair_in-lt3
 returns-then-pair_in-lt3 c = (order_short _ _ _ refl c.if-tag-lt-NUMBERED.false c.if-tag-eq-NUMBERED.false c.pair_in-2.ensures.0 c.pair_in-3.ensures.0 c.if-pair_in-lt3.true, omega (arith, c.pair_in-2.ensures.1))
 
 pub returns : goal.returns
-returns c = (order_clause _ _ _ refl c.if-tag-lt-NUMBERED.false c.if-tag-eq-NUMBERED.false c.pair_in-2.ensures.0 c.pair_in-3.ensures.0 c.if-pair_in-lt3.false (c.to_usize.ensures.0 ∙ c.byte_at.ensures), omega (arith, c.pair_in-2.ensures.1, c.to_usize.ensures.1))
+returns c = (order_clause _ _ _ refl c.if-tag-lt-NUMBERED.false c.if-tag-eq-NUMBERED.false c.pair_in-2.ensures.0 c.pair_in-3.ensures.0 c.if-pair_in-lt3.false (c.from.ensures ∙ c.byte_at.ensures), omega (arith, c.pair_in-2.ensures.1))

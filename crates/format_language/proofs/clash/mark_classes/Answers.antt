@@ -1,8 +1,6 @@
 use borrow.Author.Rules.{rules}
 use native.Mathlib.Omega.{arith}
-use Prim.Native.Nat.{◌-◌}
 use mathlib.Core.Path.{refl}
-use mathlib.Core.Bool.{true}
 use Rattle.format_fields.proofs.Places.{every_here, every_after}
 use Rattle.format_language.proofs.Facts.{entry_kind}
 use Rattle.format_language.proofs.Classes.{rises_start, rises_next, classed_done, classed_here, classes_next, results_next}
@@ -20,14 +18,14 @@ overflow_add-p c = let k = entry_kind _ _ (every_here _ _ _ c.loop-p.invariant.1
 pub bounds-s-p-in-loop-p : goal.bounds-s-p-in-loop-p
 bounds-s-p-in-loop-p c = let k = entry_kind _ _ (every_here _ _ _ c.loop-p.invariant.1 c.loop-p-test.true).0 in omega (arith, k.0)
 
-pub bounds-kinds-to_usize : goal.bounds-kinds-to_usize
-bounds-kinds-to_usize c = let k = entry_kind _ _ (every_here _ _ _ c.loop-p.invariant.1 c.loop-p-test.true).0 in omega (arith, k.1, c.to_usize.ensures.0, c.loop-p.invariant.0)
+pub bounds-kinds-from : goal.bounds-kinds-from
+bounds-kinds-from c = let k = entry_kind _ _ (every_here _ _ _ c.loop-p.invariant.1 c.loop-p-test.true).0 in omega (arith, k.1, c.from.ensures, c.loop-p.invariant.0)
 
 pub whole_end-p-requires : goal.whole_end-p-requires
 whole_end-p-requires c = let k = entry_kind _ _ (every_here _ _ _ c.loop-p.invariant.1 c.loop-p-test.true).0 in omega (arith, k.0)
 
 pub loop-p-preserved : goal.loop-p-preserved
-loop-p-preserved c = (search rules, every_after _ _ _ _ c.whole_end-p.ensures.is c.loop-p.invariant.1 c.loop-p-test.true, rises_next _ _ c.loop-p.invariant.2 c.loop-p-test.true _ c.whole_end-p.ensures.is, classes_next _ _ c.loop-p.kinds _ c.loop-p.invariant.3 c.loop-p.invariant.4 c.loop-p.invariant.1 c.loop-p-test.true c.if-s-p-ne-CLASS.false _ c.whole_end-p.ensures.is _ c.to_usize.ensures.0, results_next _ _ c.loop-p.kinds _ c.loop-p.invariant.3 c.loop-p.invariant.4 c.loop-p.invariant.1 c.loop-p-test.true c.if-s-p-ne-CLASS.false _ c.whole_end-p.ensures.is)
+loop-p-preserved c = (search rules, every_after _ _ _ _ c.whole_end-p.ensures.is c.loop-p.invariant.1 c.loop-p-test.true, rises_next _ _ c.loop-p.invariant.2 c.loop-p-test.true _ c.whole_end-p.ensures.is, classes_next _ _ c.loop-p.kinds _ c.loop-p.invariant.3 c.loop-p.invariant.4 c.loop-p.invariant.1 c.loop-p-test.true c.if-s-p-ne-CLASS.false _ c.whole_end-p.ensures.is _ c.from.ensures, results_next _ _ c.loop-p.kinds _ c.loop-p.invariant.3 c.loop-p.invariant.4 c.loop-p.invariant.1 c.loop-p-test.true c.if-s-p-ne-CLASS.false _ c.whole_end-p.ensures.is)
 
 pub returns : goal.returns
 returns c = classed_done _ _ c.loop-p.kinds _ c.loop-p.invariant.3 c.loop-p.invariant.4 c.loop-p.invariant.1 c.loop-p-test.false

@@ -1,16 +1,9 @@
-use Prim.Native.Nat.{◌-◌}
-use mathlib.Core.Path.{refl}
-use Rattle.format_language.proofs.Returns.{kinds_done, kinds_stop, kinds_next}
+use Rattle.std.proofs.Common.{rules, tests, ◌∙◌}
+use Rattle.std.proofs.lemmas.Iterator.{YieldsList-from_slice}
+use Rattle.std.proofs.lemmas.Iterator.Search.{all_from_yields_List}
+use Rattle.format_fields.proofs.Lists.{all_is}
+use Rattle.format_language.specs.LanguageFile.{is_kind}
 use Rattle.format_language.proofs.entries.kinds_only.Goals as goal
 
-pub loop-q-init : goal.loop-q-init
-loop-q-init c = refl
-
-pub returns-then-s-q-ge-KINDS : goal.returns-then-s-q-ge-KINDS
-returns-then-s-q-ge-KINDS c = kinds_stop _ _ _ _ c.loop-q.invariant c.requires c.loop-q-test.true c.if-s-q-ge-KINDS.true
-
-pub loop-q-preserved : goal.loop-q-preserved
-loop-q-preserved c = kinds_next _ _ _ _ c.loop-q.invariant c.requires c.loop-q-test.true c.if-s-q-ge-KINDS.false
-
 pub returns : goal.returns
-returns c = kinds_done _ _ _ _ c.loop-q.invariant c.loop-q-test.false
+returns c = all_from_yields_List is_kind _ _ c.all.result c.all.ensures.ran (YieldsList-from_slice c.args.bytes.now cc) (λ x b q k. search (rules, tests)) ∙ all_is is_kind _

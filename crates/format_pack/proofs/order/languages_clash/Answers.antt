@@ -1,13 +1,6 @@
-use Prim.Native.Nat.{◌-◌}
-use mathlib.Core.Path.{refl}
-use mathlib.Core.Bool.{true}
 use Rattle.format_fields.proofs.Places.{whole_end, head_there, every_here, every_after, some_stop, some_next, some_done}
-use Rattle.format_pack.specs.Inner.Parts.{clash_at}
 use Rattle.format_pack.proofs.Passes.{part_whole_lem}
 use Rattle.format_pack.proofs.order.languages_clash.Goals as goal
-
-pub loop-p-init : goal.loop-p-init
-loop-p-init c = (c.requires.0, c.requires.1, refl)
 
 pub whole_end-e-requires : goal.whole_end-e-requires
 whole_end-e-requires c = head_there _ _ (part_whole_lem _ _ (every_here _ _ _ c.loop-p.invariant.0 c.loop-p-test.true).0)

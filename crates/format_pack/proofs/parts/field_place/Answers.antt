@@ -1,8 +1,5 @@
-use native.Mathlib.Omega.{arith}
-use Prim.Native.Nat.{◌-◌}
 use mathlib.Core.Path.{refl}
-use mathlib.Core.Bool.{true}
-use Rattle.format_pack.proofs.Standing.{place_start, place_none, place_next, place_other, stands_here}
+use Rattle.format_pack.proofs.Standing.{place_start, stands_nowhere, place_next, place_other, stands_here}
 use Rattle.format_fields.proofs.Places.{head_there, every_here, every_after}
 use Rattle.format_pack.proofs.parts.field_place.Goals as goal
 
@@ -22,4 +19,4 @@ pub loop-p-preserved : goal.loop-p-preserved
 loop-p-preserved c = (every_after _ _ _ _ c.whole_end-e.ensures.is c.loop-p.invariant.0 c.loop-p-test.true, place_other _ _ _ _ _ c.loop-p.invariant.1 _ c.whole_end-e.ensures.is c.loop-p-test.true _ refl c.if-s-p.false)
 
 pub returns : goal.returns
-returns c = record { past = omega arith; inside = omega arith; is = λ q e. place_none c.args.tag c.args.s.now c.loop-p.p c.loop-p.left _ c.loop-p.invariant.1 c.loop-p-test.false q e }
+returns c = stands_nowhere _ _ _ _ _ c.loop-p.invariant.1 c.loop-p-test.false

@@ -1,9 +1,16 @@
 use native.Mathlib.Omega.{arith}
-use Rattle.format_pack.proofs.Readings.{first_none, first_told, first_sort_lem}
+use mathlib.Core.Path.{sym, ◌∙◌}
+use Rattle.format_pack.proofs.Readings.{index_in, first_none, first_told}
 use Rattle.format_pack.proofs.signs.first_operand.Goals as goal
 
-pub returns-then-i-ge-SIGNS : goal.returns-then-i-ge-SIGNS
-returns-then-i-ge-SIGNS c = (first_none _ _ c.sign_index-i.ensures c.if-i-ge-SIGNS.true, omega arith)
+pub returns-in_err-sign_index : goal.returns-in_err-sign_index
+returns-in_err-sign_index c = c.from_residual.ensures ∙ first_none _ c.sign_index.ensures (c.in_err-sign_index.was)
+
+pub offset_bounds-branch : goal.offset_bounds-branch
+offset_bounds-branch c = let below = index_in _ _ (sym c.sign_index.ensures ∙ c.in_ok-sign_index.was) in omega arith
+
+pub bounds-branch-branch : goal.bounds-branch-branch
+bounds-branch-branch c = index_in _ _ (sym c.sign_index.ensures ∙ c.in_ok-sign_index.was)
 
 pub returns : goal.returns
-returns c = (first_told _ _ c.sign_index-i.ensures, first_sort_lem c.sign_index-i.result)
+returns c = first_told _ c.sign_index.ensures (c.in_ok-sign_index.was)

@@ -1,25 +1,35 @@
-use mathlib.Core.Path.{refl, ◌∙◌}
+use mathlib.Core.Path.{ap, ◌∙◌}
 use native.Mathlib.Omega.{arith}
+use Rattle.format_pack.specs.Inner.Reading.{rest_at}
 use Rattle.format_pack.proofs.Readings.{sign_past, sign_low, sign_high, sign_plain, sign_make, sign_constant, sign_variable}
 use Rattle.format_pack.proofs.term.sign_end.Goals as goal
+use Rattle.format_pack.proofs.term.sign_end.Goals.{then-sign-first-via-then-sign-first, then-sign-first-via-else-sign-first+then-first-sign, then-not-has_number-via-then-not-has_number, then-not-has_number-via-else-not-has_number+then-sign-eq-MAKE}
 
-pub returns-then-s-at : goal.returns-then-s-at
-returns-then-s-at c = (sign_past _ _ _ _ c.if-s-at.true, tt)
+pub returns-in_err-sign-clause-is : goal.returns-in_err-sign-clause-is
+returns-in_err-sign-clause-is c = ap (rest_at c.args.s.now) c.from_residual.ensures ∙ sign_past _ _ _ _ c.in_err-sign.ensures.lookup.3
 
-pub returns-then-sign-sort : goal.returns-then-sign-sort
-returns-then-sign-sort c = (sign_low _ _ _ _ c.if-s-at.false _ refl c.if-sign-sort.true, tt)
+pub returns-then-sign-first-clause-is : goal.returns-then-sign-first-clause-is
+returns-then-sign-first-clause-is c =
+    let first = c.first_sign-first.ensures in
+    elim c.then-sign-first.branch [
+      | then-sign-first-via-then-sign-first w ↦ sign_low _ _ _ _ c.in_ok-sign.ensures.lookup.3.0 _ (c.in_ok-sign.ensures.lookup.3.1 0) (omega (arith, w.if-sign-first.true))
+      | then-sign-first-via-else-sign-first+then-first-sign w ↦ sign_high _ _ _ _ c.in_ok-sign.ensures.lookup.3.0 _ (c.in_ok-sign.ensures.lookup.3.1 0) (omega (arith, w.if-sign-first.false)) (omega (arith, w.if-first-sign.true))
+    ]
 
-pub returns-then-sort-sign : goal.returns-then-sort-sign
-returns-then-sort-sign c = (sign_high _ _ _ _ c.if-s-at.false _ refl c.if-sign-sort.false c.if-sort-sign.true, tt)
+pub returns-then-not-has_number-clause-is : goal.returns-then-not-has_number-clause-is
+returns-then-not-has_number-clause-is c =
+    let first = c.first_sign-first.ensures in
+    elim c.then-not-has_number.branch [
+      | then-not-has_number-via-then-not-has_number w ↦ sign_plain _ _ _ _ c.in_ok-sign.ensures.lookup.3.0 _ (c.in_ok-sign.ensures.lookup.3.1 0) (omega arith) (omega arith) _ c.has_number.ensures w.if-not-has_number.true
+      | then-not-has_number-via-else-not-has_number+then-sign-eq-MAKE w ↦ sign_make _ _ _ _ c.in_ok-sign.ensures.lookup.3.0 _ (c.in_ok-sign.ensures.lookup.3.1 0) (omega arith) (omega arith) _ c.has_number.ensures w.if-not-has_number.false w.if-sign-eq-MAKE.true
+    ]
 
-pub returns-then-not-has_number : goal.returns-then-not-has_number
-returns-then-not-has_number c = (sign_plain _ _ _ _ c.if-s-at.false _ refl c.if-sign-sort.false c.if-sort-sign.false _ c.has_number.ensures (c.if-not-has_number.true), omega arith)
+pub returns-then-sign-eq-CONSTANT-clause-is : goal.returns-then-sign-eq-CONSTANT-clause-is
+returns-then-sign-eq-CONSTANT-clause-is c =
+    let first = c.first_sign-first.ensures in
+    c.number_end.ensures.is ∙ sign_constant _ _ _ _ c.in_ok-sign.ensures.lookup.3.0 _ (c.in_ok-sign.ensures.lookup.3.1 0) (omega arith) (omega arith) _ c.has_number.ensures c.if-not-has_number.false c.if-sign-eq-MAKE.false c.if-sign-eq-CONSTANT.true
 
-pub returns-then-sign-eq-MAKE : goal.returns-then-sign-eq-MAKE
-returns-then-sign-eq-MAKE c = (sign_make _ _ _ _ c.if-s-at.false _ refl c.if-sign-sort.false c.if-sort-sign.false _ c.has_number.ensures (c.if-not-has_number.false) c.if-sign-eq-MAKE.true, omega arith)
-
-pub returns-then-sign-eq-CONSTANT : goal.returns-then-sign-eq-CONSTANT
-returns-then-sign-eq-CONSTANT c = (c.number_end.ensures.0 ∙ sign_constant _ _ _ _ c.if-s-at.false _ refl c.if-sign-sort.false c.if-sort-sign.false _ c.has_number.ensures (c.if-not-has_number.false) c.if-sign-eq-MAKE.false c.if-sign-eq-CONSTANT.true, c.number_end.ensures.1)
-
-pub returns : goal.returns
-returns c = (c.number_end-2.ensures.0 ∙ sign_variable _ _ _ _ c.if-s-at.false _ refl c.if-sign-sort.false c.if-sort-sign.false _ c.has_number.ensures (c.if-not-has_number.false) c.if-sign-eq-MAKE.false c.if-sign-eq-CONSTANT.false, c.number_end-2.ensures.1)
+pub returns-clause-is : goal.returns-clause-is
+returns-clause-is c =
+    let first = c.first_sign-first.ensures in
+    c.number_end-2.ensures.is ∙ sign_variable _ _ _ _ c.in_ok-sign.ensures.lookup.3.0 _ (c.in_ok-sign.ensures.lookup.3.1 0) (omega arith) (omega arith) _ c.has_number.ensures c.if-not-has_number.false c.if-sign-eq-MAKE.false c.if-sign-eq-CONSTANT.false

@@ -1,7 +1,5 @@
 use native.Mathlib.Omega.{arith}
-use Prim.Native.Nat.{◌-◌}
 use mathlib.Core.Path.{refl}
-use mathlib.Core.Bool.{true}
 use Rattle.format_pack.proofs.Passes.{count_start, count_done, count_here, count_other}
 use Rattle.format_fields.proofs.Places.{head_there, every_here, every_after}
 use Rattle.format_pack.proofs.whole.count_tag.Goals as goal

@@ -1,5 +1,4 @@
 use native.Mathlib.Omega.{arith}
-use Prim.Native.Nat.{◌-◌}
 use Rattle.format_translation.proofs.PlainWalk.{whole_start, left_start, left_end, head_there, whole_next, left_number, left_next}
 use Rattle.format_translation.proofs.plain.is_plain.Goals as goal
 

@@ -5,7 +5,7 @@ use Rattle.listing.proofs.clauses.put_numbered.Goals as goal
 
 pub returns : goal.returns
 returns c = (
-  puts_numbered _ _ _ _ _ _ _ _ _ _ _ _ _ _ _ _ _ c.byte_at.ensures c.byte_at-2.ensures c.byte_at-3.ensures refl
+  puts_numbered _ _ _ _ _ _ _ _ _ _ _ _ _ _ _ _ _ c.from.ensures c.from-2.ensures c.from-3.ensures refl
       c.put_number-name.ensures.0 c.put_number-number.ensures.0 c.put_number-code.ensures.0 c.put_hex-end.ensures.0 c.put.ensures,
   omega (arith, c.put_number-name.ensures.1, c.put_number-number.ensures.1, c.put_number-code.ensures.1, c.put_hex-end.ensures.1, c.put.ensures.end, rest_length c.args.clause.now),
 )

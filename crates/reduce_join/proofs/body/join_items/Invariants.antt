@@ -7,7 +7,7 @@ use Rattle.format_fields.specs.Inner.Places.{places_from}
 use Rattle.format_translation.specs.Translation.{Translation}
 use Rattle.format_translation.specs.Inner.Items.{item_whole}
 use Rattle.reduce_join.specs.Inner.Joining.{Joining, Reached, joined_field, joined_body}
-use Rattle.reduce_join.proofs.Turns.{Writing}
+use Rattle.reduce_merge.proofs.Writing.{Writing}
 use Rattle.reduce_join.proofs.body.join_items.Given as goal
 
 abbrev pub invariant-loop-p : goal.invariant-loop-p

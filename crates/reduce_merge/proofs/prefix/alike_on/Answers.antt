@@ -1,19 +1,11 @@
-use native.Mathlib.Omega.{arith}
-use Rattle.format_fields.proofs.Truth.{false_true}
-use Rattle.reduce_merge.proofs.Prefixes.{sixteen_start, sixteen_next, sixteen_done}
+use mathlib.Core.Path.{sym, ◌∙◌}
+use Rattle.std.proofs.Common.{rules, ◌≤◌, ◌+◌, length}
+use Rattle.reduce_merge.proofs.Prefixes.{alike_more}
 use Rattle.reduce_merge.proofs.prefix.alike_on.Goals as goal
+use Rattle.reduce_merge.proofs.prefix.alike_on.Goals.{then-a-n-ge16, else-a-n-ge16}
 
-pub returns-then-a-n-lt16 : goal.returns-then-a-n-lt16
-returns-then-a-n-lt16 c = λ e. false_true e
-
-pub returns-then-b-n-lt16 : goal.returns-then-b-n-lt16
-returns-then-b-n-lt16 c = λ e. false_true e
-
-pub loop-i-init : goal.loop-i-init
-loop-i-init c = (omega arith, λ e. sixteen_start _ _ _ c.requires)
-
-pub loop-i-preserved : goal.loop-i-preserved
-loop-i-preserved c = (omega arith, λ e. sixteen_next _ _ _ _ _ c.loop-i.invariant.1 (omega arith) (omega arith) e)
-
-pub returns : goal.returns
-returns c = sixteen_done _ _ _ _ _ c.loop-i.invariant.1 (omega (arith, c.loop-i.invariant.0))
+pub returns-then-b-n-ge16 : goal.returns-then-b-n-ge16
+returns-then-b-n-ge16 c =
+    let u : c.args.n + 16 ≤ length c.args.a.now = search rules in
+    let v : c.args.n + 16 ≤ length c.args.b.now = search rules in
+    λ e. alike_more _ _ _ 16 c.requires u v (sym e ∙ c.eq.ensures)

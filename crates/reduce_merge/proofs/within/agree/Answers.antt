@@ -1,14 +1,10 @@
 use mathlib.Core.Path.{refl, ◌∙◌}
 use native.Mathlib.Omega.{arith}
 use Rattle.reduce_merge.proofs.Walks.{whole_here, head_here, key_here}
-use Rattle.reduce_merge.proofs.Turns.{rest_start}
 use Rattle.reduce_merge.proofs.Prefixes.{shared_agree}
 use Rattle.reduce_merge.proofs.Agreeing.{agree_end, agree_out, agree_below, agree_above, agree_clash, agree_same}
 use Rattle.reduce_merge.proofs.within.agree.Goals as goal
 use Rattle.reduce_merge.proofs.within.agree.Goals.{then-key-other-2+else-not-same_field, else-key-other-2, else-loop-q-test, then-loop-q-test+then-key-other}
-
-pub shared-start-requires : goal.shared-start-requires
-shared-start-requires c = ((rest_start _ _ c.requires.0).from, (rest_start _ _ c.requires.1).from)
 
 pub clash-init : goal.clash-init
 clash-init c = (refl, shared_agree _ _ _ _ c.requires (c.shared-start.ensures _))

@@ -1,20 +1,13 @@
 use Rattle.reduce_merge.proofs.Walks.{head_here, key_here, sought}
-use Rattle.reduce_merge.proofs.Turns.{rest_start}
 use Rattle.reduce_merge.proofs.Prefixes.{shared_within}
 use Rattle.reduce_merge.proofs.Containing.{containing_end, containing_meets, containing_stop, containing_on}
 use Rattle.reduce_merge.proofs.within.lies_within.Goals as goal
-
-pub shared-start-requires : goal.shared-start-requires
-shared-start-requires c = ((rest_start _ _ c.requires.0.sorted).from, (rest_start _ _ c.requires.1.sorted).from)
 
 pub loop-p-init : goal.loop-p-init
 loop-p-init c = shared_within _ _ _ c.requires (c.shared-start.ensures _)
 
 pub order_at-requires : goal.order_at-requires
 order_at-requires c = key_here _ _ c.loop-p.invariant.left.from c.loop-p-test.true
-
-pub skip_below-q-requires : goal.skip_below-q-requires
-skip_below-q-requires c = c.loop-p.invariant.right.from.long
 
 pub lies_at-requires : goal.lies_at-requires
 lies_at-requires c = containing_meets _ _ _ _ c.loop-p.invariant c.loop-p-test.true _ c.order_at.ensures.0 _ (sought _ _ _ _ _ c.loop-p.invariant.right.from c.skip_below-q.ensures)

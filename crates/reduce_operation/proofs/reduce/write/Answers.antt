@@ -1,3 +1,4 @@
+use mathlib.Core.Path.{refl}
 use native.Mathlib.Omega.{arith}
 use Rattle.reduce_operation.proofs.Operation.{write_done, short_take}
 use borrow.Author.Rules.{rules}
@@ -7,4 +8,4 @@ pub put-requires : goal.put-requires
 put-requires c = (record { rise = omega arith; fits = omega arith }, omega arith)
 
 pub returns : goal.returns
-returns c = (c.accept.ensures, write_done c.put.ensures (search (short_take, rules)))
+returns c = (refl, write_done c.put.ensures (search (short_take, rules)))

@@ -8,6 +8,3 @@ returns-then-numbers_below c = λ b d e q. zero_kept b d _ (c.numbers_below.ensu
 
 pub put_uses-requires : goal.put_uses-requires
 put_uses-requires c = (c.requires.2, refl, zeros 8192, c.requires.1)
-
-pub returns : goal.returns
-returns c = λ b d e q. c.numbers_known.ensures b d e (c.put_uses.ensures.1 d q)

@@ -13,7 +13,7 @@ pub bounds-input-at-then-input-at-eq2-2 : goal.bounds-input-at-then-input-at-eq2
 bounds-input-at-then-input-at-eq2-2 c = code_leaf_three _ _ c.requires.0 (λ z. omega (arith, c.if-input-at-eq2.true))
 
 pub returns-then-input-at-eq2 : goal.returns-then-input-at-eq2
-returns-then-input-at-eq2 c = leaf_token _ _ _ _ _ c.if-input-at-eq2.true c.put_three.ensures
+returns-then-input-at-eq2 c = leaf_token _ _ _ _ _ c.if-input-at-eq2.true c.put.ensures
 
 pub bounds-input-at-2 : goal.bounds-input-at-2
 bounds-input-at-2 c = code_leaf_room _ _ c.requires.0

@@ -1,15 +1,11 @@
-use mathlib.Core.Path.{◌∙◌}
 use Rattle.run_emit.proofs.Rows.{used_root, used_zero, used_behind}
 use Rattle.run_emit.proofs.run.number_at.Goals as goal
 
-pub returns-then-used-ge-BODY_LENGTH : goal.returns-then-used-ge-BODY_LENGTH
-returns-then-used-ge-BODY_LENGTH c = used_root _ _ c.if-used-ge-BODY_LENGTH.true
+pub returns-in-Root : goal.returns-in-Root
+returns-in-Root c = used_root _ c.in-Root.is
 
-pub returns-then-body_at-eq3 : goal.returns-then-body_at-eq3
-returns-then-body_at-eq3 c = used_zero _ _ c.if-used-ge-BODY_LENGTH.false c.body_at.ensures.0 c.if-body_at-eq3.true
+pub returns-in-At : goal.returns-in-At
+returns-in-At c = used_zero _ c.in-At.is c.body_at.ensures.0 c.if-body_at-eq3.true
 
-pub body_at-requires-2 : goal.body_at-requires-2
-body_at-requires-2 c = c.requires c.if-used-ge-BODY_LENGTH.false (λ z. c.if-body_at-eq3.false (c.body_at.ensures.0 ∙ z))
-
-pub returns : goal.returns
-returns c = used_behind _ _ c.if-used-ge-BODY_LENGTH.false c.body_at.ensures.0 c.if-body_at-eq3.false c.body_at-2.ensures.0
+pub returns-in-At-2 : goal.returns-in-At-2
+returns-in-At-2 c = used_behind _ c.in-At.is c.in-At-2.is c.body_at.ensures.0 c.if-body_at-eq3.false c.body_at-in-At-2.ensures.0

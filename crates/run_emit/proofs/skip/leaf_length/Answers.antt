@@ -5,8 +5,8 @@ use Rattle.run_emit.proofs.skip.leaf_length.Goals as goal
 pub returns-in-Tree : goal.returns-in-Tree
 returns-in-Tree c = (length_tree _ _ c.in-Tree.is, omega arith, omega arith)
 
-pub returns-then-input-at-eq3 : goal.returns-then-input-at-eq3
-returns-then-input-at-eq3 c = (length_two _ _ c.in-Code.is c.if-input-at-eq3.true, omega arith, omega arith)
+pub returns-in-Code : goal.returns-in-Code
+returns-in-Code c = (length_two _ _ c.in-Code.is c.if-reading-at-eq3.true, omega arith, omega arith)
 
-pub returns-else-input-at-eq3 : goal.returns-else-input-at-eq3
-returns-else-input-at-eq3 c = (length_three _ _ c.in-Code.is c.if-input-at-eq3.false, omega arith, omega arith)
+pub returns-in-Code-2 : goal.returns-in-Code-2
+returns-in-Code-2 c = (length_three _ _ c.in-Code.is c.if-reading-at-eq3.false, omega arith, omega arith)

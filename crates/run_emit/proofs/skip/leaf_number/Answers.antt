@@ -10,7 +10,7 @@ pub bounds-input-at-then-input-at-eq4 : goal.bounds-input-at-then-input-at-eq4
 bounds-input-at-then-input-at-eq4 c = code_leaf_three _ _ c.requires (λ z. omega (arith, c.if-input-at-eq4.true))
 
 pub returns-then-input-at-eq4 : goal.returns-then-input-at-eq4
-returns-then-input-at-eq4 c = (number_there _ _ c.if-input-at-eq4.true c.to_usize.ensures.0, c.to_usize.ensures.1)
+returns-then-input-at-eq4 c = (number_there _ _ c.if-input-at-eq4.true c.from.ensures, omega arith)
 
 pub returns : goal.returns
 returns c = (number_none _ _ c.if-input-at-eq4.false, omega arith)

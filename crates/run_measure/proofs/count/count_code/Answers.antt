@@ -1,6 +1,5 @@
 use native.Mathlib.Omega.{arith}
 use borrow.Author.Rules.{rules}
-use Prim.Native.Nat.{◌-◌}
 use mathlib.Core.Path.{refl, sym, ◌∙◌}
 use Rattle.run_measure.proofs.Counts.{code_done, code_next, code_below}
 use Rattle.run_measure.proofs.count.count_code.Goals as goal

@@ -1,162 +1,95 @@
-use Rattle.run_measure.proofs.Rows.{open_in, open_room, open_base, open_start, open_done, open_back, open_deep, open_broken, open_on, open_down, tidy_start, tidy_deepest, tidy_back, tidy_on, tidy_down}
-use Rattle.run_measure.proofs.Windows.{kept_then, weighed_only}
-use Prim.Native.Nat.{◌+◌, ◌-◌}
-use mathlib.Core.Path.{◌≡◌, refl, sym, ◌∙◌}
+use Prim.Native.Nat.{◌+◌}
+use mathlib.Core.Path.{◌≡◌, refl, sym}
 use native.Mathlib.Omega.{arith}
+use lib.ListN.{get_or}
+use Rattle.std.proofs.Common.{rules, Err}
 use Rattle.run_measure.specs.Inner.Weighing.{window}
+use Rattle.run_measure.proofs.Windows.{kept_then, weighed_only}
 use Rattle.run_measure.proofs.Laws.{step_row, deeper}
-use Rattle.run_measure.proofs.Learning.{learn_start, learn_in, learn_back, learn_on, learn_down}
+use Rattle.run_measure.proofs.Rows.{open_in, open_room, open_start, open_done, open_back, open_deep, open_err, open_on, open_down, tidy_start, tidy_deepest, tidy_back, tidy_on, tidy_down}
+use Rattle.run_measure.proofs.Learning.{learn_start, learn_back, learn_on, learn_down}
 use Rattle.run_measure.proofs.measure.measure_rows.Goals as goal
 
-pub loop-end-init : goal.loop-end-init
-loop-end-init c = (open_start _ _ _ _ _ _ _ _ _ _ _ _ _ _ _ c.requires.1 c.requires.2 c.requires.3 c.requires.4 refl refl c.requires.8, learn_start _ _ _ _ _ _ _ _ _ _ _ refl, refl, refl, tidy_start _ _ _ _ c.requires.9)
+pub loop-row-init : goal.loop-row-init
+loop-row-init g c = record {
+  rows = open_start _ _ _ _ _ _ _ _ _ _ _ _ _ _ _ c.requires.2 c.requires.4 c.requires.5 c.requires.6 refl refl c.requires.9;
+  learning = learn_start _ _ _ _ _ _ _ _ _ _ _ refl;
+  tidy = tidy_start _ _ _ _ c.requires.10;
+}
 
-pub shape_of-weights-then-depth-eq0 : goal.shape_of-weights-then-depth-eq0
-shape_of-weights-then-depth-eq0 c = c.loop-end.invariant.2
-
-pub shape_of-ends-then-depth-eq0 : goal.shape_of-ends-then-depth-eq0
-shape_of-ends-then-depth-eq0 c = c.loop-end.invariant.3
-
-pub returns-then-depth-eq0 : goal.returns-then-depth-eq0
-returns-then-depth-eq0 c = record { is = (open_done _ _ _ _ _ _ _ c.loop-end.invariant.0 c.if-end-q.true c.if-depth-eq0.true, (c.loop-end.invariant.0.inside, c.loop-end.invariant.0.under, c.loop-end.invariant.0.cheap)); learnt = c.loop-end.invariant.1.learnt }
-
-pub overflow_sub-depth : goal.overflow_sub-depth
-overflow_sub-depth c = omega (arith, c.if-depth-eq0.false)
-
-pub offset_bounds-firsts-depth : goal.offset_bounds-firsts-depth
-offset_bounds-firsts-depth c = omega (arith, c.loop-end.invariant.0.shallow, c.requires.5)
-
-pub bounds-firsts-depth : goal.bounds-firsts-depth
-bounds-firsts-depth c = omega (arith, c.loop-end.invariant.0.shallow, c.requires.5)
-
-pub overflow_cast-q : goal.overflow_cast-q
-overflow_cast-q c = let w = c.loop-end.invariant.0.waiting (c.loop-end.depth - 1) (omega (arith, c.if-depth-eq0.false)) in omega (arith, w.0)
-
-pub offset_bounds-lasts-depth : goal.offset_bounds-lasts-depth
-offset_bounds-lasts-depth c = omega (arith, c.loop-end.invariant.0.shallow, c.requires.5)
-
-pub bounds-lasts-depth : goal.bounds-lasts-depth
-bounds-lasts-depth c = omega (arith, c.loop-end.invariant.0.shallow, c.requires.5)
-
-pub overflow_cast-end : goal.overflow_cast-end
-overflow_cast-end c = let w = c.loop-end.invariant.0.waiting (c.loop-end.depth - 1) (omega (arith, c.if-depth-eq0.false)) in omega (arith, w.1)
-
-pub overflow_sub-q : goal.overflow_sub-q
-overflow_sub-q c = let z = learn_in _ _ _ _ c.loop-end.invariant.1 c.if-depth-eq0.false in omega (arith, z.0)
+pub returns-then-depth-eq0-clause-is : goal.returns-then-depth-eq0-clause-is
+returns-then-depth-eq0-clause-is g c =
+    let o = c.loop-row.invariant.rows in
+    (open_done _ _ _ _ _ _ _ o c.if-row.true c.if-depth-eq0.true, (o.inside, o.under, o.cheap))
 
 pub wipe-requires : goal.wipe-requires
-wipe-requires c = let r = open_room _ _ _ _ _ _ _ c.loop-end.invariant.0 c.requires.5 in (c.requires.6, c.requires.7, omega (arith, r), c.loop-end.invariant.4.none, tidy_deepest _ _ _ _ c.loop-end.invariant.4 c.loop-end.invariant.0.based c.if-depth-eq0.false)
+wipe-requires g c =
+    let r = open_room _ _ _ _ _ _ _ c.loop-row.invariant.rows c.requires.3 in
+    let tidy = c.loop-row.invariant.tidy in
+    rw c.from.ensures
+    (c.requires.0, c.requires.7, c.requires.8, omega arith, tidy.none, tidy_deepest _ _ _ _ tidy c.loop-row.invariant.rows.based c.if-depth-eq0.false)
 
-pub overflow_sub-base : goal.overflow_sub-base
-overflow_sub-base c = let h = open_base _ _ _ _ _ _ _ c.loop-end.invariant.0 c.if-depth-eq0.false in omega (arith, h)
+pub loop-row-preserved-then-row : goal.loop-row-preserved-then-row
+loop-row-preserved-then-row g c =
+    let o = c.loop-row.invariant.rows in
+    rw (c.from.ensures, c.from-then-row.ensures)
+    (record {
+      rows = open_back _ _ _ _ _ _ _ o c.wipe.ensures.kept c.if-row.true c.if-depth-eq0.false;
+      learning = learn_back _ _ _ _ c.loop-row.invariant.learning c.if-row.true c.if-depth-eq0.false o.inside (rw c.from.ensures at c.keep_end.ensures);
+      tidy = tidy_back _ _ _ _ c.loop-row.invariant.tidy o.based c.wipe.ensures c.if-depth-eq0.false;
+    })
 
-pub overflow_sub-q-then-end-q : goal.overflow_sub-q-then-end-q
-overflow_sub-q-then-end-q c = let z = learn_in _ _ _ _ c.loop-end.invariant.1 c.if-depth-eq0.false in omega (arith, z.0)
+pub bounds-source-row-in-loop-row : goal.bounds-source-row-in-loop-row
+bounds-source-row-in-loop-row g c = (open_in _ _ _ _ _ _ _ c.loop-row.invariant.rows c.if-row.false c.requires.1.short).0
 
-pub bounds-source-q : goal.bounds-source-q
-bounds-source-q c = (learn_in _ _ _ _ c.loop-end.invariant.1 c.if-depth-eq0.false).1
+pub returns-then-out_of_levels-clause-is : goal.returns-then-out_of_levels-clause-is
+returns-then-out_of_levels-clause-is g c = (open_deep _ _ _ _ _ _ _ c.loop-row.invariant.rows c.if-row.false (sym c.if-out_of_levels.ensures), tt)
 
-pub offset_bounds-starts-depth : goal.offset_bounds-starts-depth
-offset_bounds-starts-depth c = omega (arith, c.loop-end.invariant.0.shallow, c.requires.5)
+pub returns-in_err-found-clause-is : goal.returns-in_err-found-clause-is
+returns-in_err-found-clause-is g c =
+    let why : c.from_residual.result ≡ Err c.in_err-found.field-0.0 = search rules in
+    rw why (open_err _ _ _ _ _ _ _ c.loop-row.invariant.rows c.if-row.false (sym c.if-out_of_levels.ensures) _ c.weigh-total.ensures.is _ c.step_at.ensures.is c.in_err-found.was, tt)
 
-pub bounds-starts-depth : goal.bounds-starts-depth
-bounds-starts-depth c = omega (arith, c.loop-end.invariant.0.shallow, c.requires.5)
+pub wipe-requires-then-found : goal.wipe-requires-then-found
+wipe-requires-then-found g c =
+    let r = open_room _ _ _ _ _ _ _ c.loop-row.invariant.rows c.requires.3 in (
+      c.requires.0,
+      c.requires.7,
+      c.requires.8,
+      omega (arith, c.weigh-total.ensures.kept.long),
+      c.weigh-total.ensures.none,
+      weighed_only _ _ _ _ _ (window c.args.width c.loop-row.weights c.loop-row.base) _ _ c.weigh-total.ensures.is,
+    )
 
-pub keep_end-requires : goal.keep_end-requires
-keep_end-requires c = let z = learn_in _ _ _ _ c.loop-end.invariant.1 c.if-depth-eq0.false in (z.2, z.3)
-
-pub loop-end-smaller-then-end-q : goal.loop-end-smaller-then-end-q
-loop-end-smaller-then-end-q c = omega (arith, c.if-depth-eq0.false)
-
-pub loop-end-preserved-then-end-q : goal.loop-end-preserved-then-end-q
-loop-end-preserved-then-end-q c = (open_back _ _ _ _ _ _ _ c.loop-end.invariant.0 c.wipe.ensures.kept c.if-end-q.true c.if-depth-eq0.false, learn_back _ _ _ _ c.loop-end.invariant.1 c.if-end-q.true c.if-depth-eq0.false c.loop-end.invariant.0.inside c.keep_end.ensures, c.wipe.ensures.kept.long ∙ c.loop-end.invariant.2, c.ends-1.given ∙ c.loop-end.invariant.3, tidy_back _ _ _ _ c.loop-end.invariant.4 c.loop-end.invariant.0.based c.wipe.ensures c.if-depth-eq0.false)
-
-pub bounds-source-q-in-loop-end : goal.bounds-source-q-in-loop-end
-bounds-source-q-in-loop-end c = (open_in _ _ _ _ _ _ _ c.loop-end.invariant.0 c.if-end-q.false c.requires.0.short).0
-
-pub overflow_sub-levels : goal.overflow_sub-levels
-overflow_sub-levels c = omega (arith, c.loop-end.invariant.0.shallow)
-
-pub out_of_levels-requires : goal.out_of_levels-requires
-out_of_levels-requires c = (open_in _ _ _ _ _ _ _ c.loop-end.invariant.0 c.if-end-q.false c.requires.0.short).1
-
-pub shape_of-weights-then-out_of_levels : goal.shape_of-weights-then-out_of_levels
-shape_of-weights-then-out_of_levels c = c.loop-end.invariant.2
-
-pub shape_of-ends-then-out_of_levels : goal.shape_of-ends-then-out_of_levels
-shape_of-ends-then-out_of_levels c = c.loop-end.invariant.3
-
-pub returns-then-out_of_levels : goal.returns-then-out_of_levels
-returns-then-out_of_levels c = record { is = (open_deep _ _ _ _ _ _ _ c.loop-end.invariant.0 c.if-end-q.false (sym c.out_of_levels.ensures ∙ c.if-out_of_levels.true), tt); learnt = c.loop-end.invariant.1.learnt }
-
-pub weigh-total-requires : goal.weigh-total-requires
-weigh-total-requires c = let z = open_in _ _ _ _ _ _ _ c.loop-end.invariant.0 c.if-end-q.false c.requires.0.short in let r = open_room _ _ _ _ _ _ _ c.loop-end.invariant.0 c.requires.5 in (z.2, c.requires.6, c.requires.7, omega (arith, r), c.loop-end.invariant.4.none)
-
-pub offset_bounds-starts-depth-in-loop-end : goal.offset_bounds-starts-depth-in-loop-end
-offset_bounds-starts-depth-in-loop-end c = omega (arith, c.loop-end.invariant.0.shallow, c.requires.5)
-
-pub bounds-starts-depth-in-loop-end : goal.bounds-starts-depth-in-loop-end
-bounds-starts-depth-in-loop-end c = omega (arith, c.loop-end.invariant.0.shallow, c.requires.5)
-
-pub bounds-source-q-in-loop-end-2 : goal.bounds-source-q-in-loop-end-2
-bounds-source-q-in-loop-end-2 c = (open_in _ _ _ _ _ _ _ c.loop-end.invariant.0 c.if-end-q.false c.requires.0.short).0
-
-pub step_at-requires : goal.step_at-requires
-step_at-requires c = let z = open_in _ _ _ _ _ _ _ c.loop-end.invariant.0 c.if-end-q.false c.requires.0.short in let r = open_room _ _ _ _ _ _ _ c.loop-end.invariant.0 c.requires.5 in (c.requires.0, z.1, c.loop-end.invariant.0.inside, c.loop-end.invariant.0.under, c.loop-end.invariant.0.cheap, c.requires.6, c.requires.7, omega (arith, r, c.weigh-total.ensures.kept.long), c.weigh-total.ensures.sums)
-
-pub shape_of-weights-in-Broken : goal.shape_of-weights-in-Broken
-shape_of-weights-in-Broken c = c.weigh-total.ensures.kept.long ∙ c.loop-end.invariant.2
-
-pub shape_of-ends-in-Broken : goal.shape_of-ends-in-Broken
-shape_of-ends-in-Broken c = c.loop-end.invariant.3
-
-pub returns-in-Broken : goal.returns-in-Broken
-returns-in-Broken c = record { is = (open_broken _ _ _ _ _ _ _ c.loop-end.invariant.0 c.if-end-q.false (sym c.out_of_levels.ensures ∙ c.if-out_of_levels.false) _ c.weigh-total.ensures.is _ c.step_at.ensures.is c.in-Broken.is, tt); learnt = c.loop-end.invariant.1.learnt }
-
-pub overflow_add-q : goal.overflow_add-q
-overflow_add-q c = let z = open_in _ _ _ _ _ _ _ c.loop-end.invariant.0 c.if-end-q.false c.requires.0.short in omega (arith, z.2)
-
-pub overflow_sub-q-then-last-first : goal.overflow_sub-q-then-last-first
-overflow_sub-q-then-last-first c = omega arith
-
-pub overflow_add-base-then-last-first : goal.overflow_add-base-then-last-first
-overflow_add-base-then-last-first c = let r = open_room _ _ _ _ _ _ _ c.loop-end.invariant.0 c.requires.5 in omega (arith, r, c.loop-end.invariant.2, c.well_formed.1.1.1.1.1.1.1.1.1.1.1.1.0)
-
-pub wipe-requires-then-last-first : goal.wipe-requires-then-last-first
-wipe-requires-then-last-first c = let r = open_room _ _ _ _ _ _ _ c.loop-end.invariant.0 c.requires.5 in let z : c.loop-end.q + 1 - 1 ≡ c.loop-end.q = omega arith in (c.requires.6, c.requires.7, omega (arith, r, c.weigh-total.ensures.kept.long), c.weigh-total.ensures.none, rw z (weighed_only c.args.counts.now c.args.entries.now c.loop-end.q c.args.top c.args.width (window c.args.width c.loop-end.weights c.loop-end.base) _ (c.loop-end.base + c.args.width) c.weigh-total.ensures.is))
-
-pub loop-end-smaller-then-last-first : goal.loop-end-smaller-then-last-first
-loop-end-smaller-then-last-first c = let z = step_row _ _ _ _ _ c.in-Row.is c.step_at.ensures.within in omega (arith, z.0, z.1)
-
-pub loop-end-preserved-then-last-first : goal.loop-end-preserved-then-last-first
-loop-end-preserved-then-last-first c = (open_on _ _ _ _ _ _ _ c.loop-end.invariant.0 c.if-end-q.false (sym c.out_of_levels.ensures ∙ c.if-out_of_levels.false) _ c.weigh-total.ensures.is _ c.step_at.ensures.is c.in-Row.is c.step_at.ensures.within _ (kept_then c.weigh-total.ensures.kept c.wipe-then-last-first.ensures.kept) c.if-last-first.true, learn_on _ _ _ _ c.loop-end.invariant.1 c.if-end-q.false (sym c.out_of_levels.ensures ∙ c.if-out_of_levels.false) _ c.step_at.ensures.decides c.in-Row.is (step_row _ _ _ _ _ c.in-Row.is c.step_at.ensures.within).0 c.if-last-first.true, c.wipe-then-last-first.ensures.kept.long ∙ (c.weigh-total.ensures.kept.long ∙ c.loop-end.invariant.2), c.loop-end.invariant.3, tidy_on _ _ _ _ c.loop-end.invariant.4 c.loop-end.invariant.0.based c.weigh-total.ensures.kept c.wipe-then-last-first.ensures)
-
-pub overflow_cast-firsts : goal.overflow_cast-firsts
-overflow_cast-firsts c = let z = open_in _ _ _ _ _ _ _ c.loop-end.invariant.0 c.if-end-q.false c.requires.0.short in omega (arith, z.2)
-
-pub offset_bounds-firsts-depth-in-Row : goal.offset_bounds-firsts-depth-in-Row
-offset_bounds-firsts-depth-in-Row c = omega (arith, c.loop-end.invariant.0.shallow, c.requires.5)
-
-pub bounds-firsts-depth-in-Row : goal.bounds-firsts-depth-in-Row
-bounds-firsts-depth-in-Row c = omega (arith, c.loop-end.invariant.0.shallow, c.requires.5)
+pub loop-row-preserved-then-found : goal.loop-row-preserved-then-found
+loop-row-preserved-then-found g c =
+    let o = c.loop-row.invariant.rows in
+    let under = sym c.if-out_of_levels.ensures in
+    record {
+      rows = open_on _ _ _ _ _ _ _ o c.if-row.false under _ c.weigh-total.ensures.is _ c.step_at.ensures.is c.in_ok-found.was c.step_at.ensures.within
+          _ (kept_then c.weigh-total.ensures.kept c.wipe-then-found.ensures.kept) c.if-found.true;
+      learning = learn_on _ _ _ _ c.loop-row.invariant.learning c.if-row.false under _ c.step_at.ensures.decides c.in_ok-found.was
+          (step_row _ _ _ _ _ c.in_ok-found.was c.step_at.ensures.within).0 c.if-found.true;
+      tidy = tidy_on _ _ _ _ c.loop-row.invariant.tidy o.based c.weigh-total.ensures.kept c.wipe-then-found.ensures;
+    }
 
 pub overflow_cast-lasts : goal.overflow_cast-lasts
-overflow_cast-lasts c = let z = open_in _ _ _ _ _ _ _ c.loop-end.invariant.0 c.if-end-q.false c.requires.0.short in omega (arith, z.3)
+overflow_cast-lasts g c =
+    let z = open_in _ _ _ _ _ _ _ c.loop-row.invariant.rows c.if-row.false c.requires.1.short in
+    omega arith
 
-pub offset_bounds-lasts-depth-in-Row : goal.offset_bounds-lasts-depth-in-Row
-offset_bounds-lasts-depth-in-Row c = omega (arith, c.loop-end.invariant.0.shallow, c.requires.5)
-
-pub bounds-lasts-depth-in-Row : goal.bounds-lasts-depth-in-Row
-bounds-lasts-depth-in-Row c = omega (arith, c.loop-end.invariant.0.shallow, c.requires.5)
-
-pub overflow_add-depth : goal.overflow_add-depth
-overflow_add-depth c = omega (arith, c.loop-end.invariant.0.shallow, c.requires.5)
-
-pub overflow_add-base : goal.overflow_add-base
-overflow_add-base c = let r = open_room _ _ _ _ _ _ _ c.loop-end.invariant.0 c.requires.5 in omega (arith, r, c.loop-end.invariant.2, c.well_formed.1.1.1.1.1.1.1.1.1.1.1.1.0)
-
-pub loop-end-smaller : goal.loop-end-smaller
-loop-end-smaller c = let z = step_row _ _ _ _ _ c.in-Row.is c.step_at.ensures.within in omega (arith, z.0, z.1)
-
-pub loop-end-preserved : goal.loop-end-preserved
-loop-end-preserved c = (open_down _ _ _ _ _ _ _ c.loop-end.invariant.0 c.if-end-q.false (sym c.out_of_levels.ensures ∙ c.if-out_of_levels.false) _ c.weigh-total.ensures.is _ c.step_at.ensures.is c.in-Row.is c.step_at.ensures.within _ c.weigh-total.ensures.kept refl c.requires.0.short c.requires.5 (deeper _ _ _ _ c.loop-end.invariant.0.shallow (sym c.out_of_levels.ensures ∙ c.if-out_of_levels.false) _ c.step_at.ensures.childless c.in-Row.is c.if-last-first.false), let z = open_in _ _ _ _ _ _ _ c.loop-end.invariant.0 c.if-end-q.false c.requires.0.short in learn_down _ _ _ _ c.loop-end.invariant.1 c.if-end-q.false (sym c.out_of_levels.ensures ∙ c.if-out_of_levels.false) _ c.step_at.ensures.decides c.in-Row.is (step_row _ _ _ _ _ c.in-Row.is c.step_at.ensures.within).0 c.loop-end.invariant.0.first_long c.loop-end.invariant.0.last_long c.requires.5 (deeper _ _ _ _ c.loop-end.invariant.0.shallow (sym c.out_of_levels.ensures ∙ c.if-out_of_levels.false) _ c.step_at.ensures.childless c.in-Row.is c.if-last-first.false) z.0 z.1, c.weigh-total.ensures.kept.long ∙ c.loop-end.invariant.2, c.loop-end.invariant.3, tidy_down _ _ _ _ c.loop-end.invariant.4 c.loop-end.invariant.0.based _ (omega (arith, c.loop-end.invariant.0.first_long, c.loop-end.invariant.0.shallow, c.requires.5)) c.weigh-total.ensures.kept c.weigh-total.ensures.none (weighed_only c.args.counts.now c.args.entries.now c.loop-end.q c.args.top c.args.width (window c.args.width c.loop-end.weights c.loop-end.base) _ (c.loop-end.base + c.args.width) c.weigh-total.ensures.is))
+pub loop-row-preserved : goal.loop-row-preserved
+loop-row-preserved g c =
+    let o = c.loop-row.invariant.rows in
+    let under = sym c.if-out_of_levels.ensures in
+    let deep = deeper c.args.index.now (get_or c.args.source.now c.loop-row.row.first 0) _ _ o.shallow under _ c.step_at.ensures.childless c.in_ok-found.was c.if-found.false in
+    let z = open_in _ _ _ _ _ _ _ o c.if-row.false c.requires.1.short in
+    let only = weighed_only c.args.counts.now c.args.entries.now c.loop-row.row.first c.args.top c.args.width (window c.args.width c.loop-row.weights c.loop-row.base)
+    _ (c.loop-row.base + c.args.width) c.weigh-total.ensures.is in
+    record {
+      rows = open_down _ _ _ _ _ _ _ o c.if-row.false under _ c.weigh-total.ensures.is _ c.step_at.ensures.is c.in_ok-found.was c.step_at.ensures.within
+          _ c.weigh-total.ensures.kept refl c.requires.1.short c.requires.3 deep;
+      learning = learn_down _ _ _ _ c.loop-row.invariant.learning c.if-row.false under _ c.step_at.ensures.decides c.in_ok-found.was
+          (step_row _ _ _ _ _ c.in_ok-found.was c.step_at.ensures.within).0 o.first_long o.last_long c.requires.3 deep z.0 z.1;
+      tidy = tidy_down _ _ _ _ c.loop-row.invariant.tidy o.based _ (omega (arith, o.first_long, o.shallow)) c.weigh-total.ensures.kept c.weigh-total.ensures.none only;
+    }

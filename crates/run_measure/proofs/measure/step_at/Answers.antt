@@ -1,37 +1,51 @@
-use Prim.Native.Nat.{ℕ, ◌+◌}
+use Prim.Native.Nat.{ℕ}
+use lib.ListN.{get_or}
 use mathlib.Core.Path.{refl, ap, ◌∙◌}
 use mathlib.Core.List.{[]}
 use native.Mathlib.Omega.{arith}
-use lib.ListN.{get_or}
 use Rattle.tree_reader.specs.declared.node.Syntax.TheVariants.{Tree}
-use Rattle.tree_reader.proofs.Laws.{place_tree, class_in, named_node, named_in, named_kinds, named_end}
-use Rattle.run_measure.proofs.Laws.{token_node, token_goes, token_in, name_goes, leaf_childless, name_childless}
+use Rattle.tree_reader.proofs.Laws.{place_tree, named_node, named_in, named_kinds, named_end}
+use Rattle.run_measure.proofs.Laws.{token_node, token_goes, token_in, name_goes}
 use Rattle.run_measure.proofs.Learning.{token_decides, name_decides}
 use Rattle.run_measure.proofs.measure.step_at.Goals as goal
 
-pub token-requires : goal.token-requires
-token-requires c = (c.requires.2, λ h. class_in _ _ c.requires.0 c.to_usize.ensures.0 c.requires.1 c.place_at-class.ensures h)
+pub returns-then-place-eq0-clause-is : goal.returns-then-place-eq0-clause-is
+returns-then-place-eq0-clause-is g c = token_goes _ _ _ _ _ _ _ _ _ _ _ c.requires.9 c.token.ensures.0 c.leaf.ensures (token_node c.args.source.now c.args.index.now _ c.args.tree.now _ (c.place_at-class.ensures ∙ ap (λ (j : ℕ). get_or c.args.index.now j 0) c.from.ensures) c.production_place-place.ensures c.if-place-eq0.true)
 
-pub returns-then-place-eq0 : goal.returns-then-place-eq0
-returns-then-place-eq0 c = let node = token_node c.args.source.now c.args.index.now _ c.args.tree.now _ (c.place_at-class.ensures ∙ ap (λ (j : ℕ). get_or c.args.index.now j 0) c.to_usize.ensures.0) c.production_place-place.ensures c.if-place-eq0.true in record { is = token_goes _ _ _ _ _ _ _ _ _ _ _ c.requires.8 c.token.ensures.0 c.leaf.ensures node; within = token_in _ _ _ _ _ _ _ _ c.requires.4 c.token.ensures.0 c.leaf.ensures c.token.ensures.1; decides = token_decides _ _ _ _ _ _ _ _ _ c.token.ensures.0 c.leaf.ensures node; childless = leaf_childless _ _ _ _ _ c.token.ensures.0 c.leaf.ensures }
+pub returns-then-place-eq0-clause-within : goal.returns-then-place-eq0-clause-within
+returns-then-place-eq0-clause-within g c = token_in _ _ _ _ _ _ _ _ c.requires.5 c.token.ensures.0 c.leaf.ensures c.token.ensures.1
 
-pub overflow_add-place : goal.overflow_add-place
-overflow_add-place c = let w = named_in Tree c.args.source.now c.args.index.now [] _ c.args.tree.now _ (place_tree _ _ refl c.to_usize.ensures.0 c.place_at-class.ensures) c.production_place-place.ensures c.if-place-eq0.false c.requires.0 c.requires.1 (λ i. omega (arith, c.type_inv.tree i)) in omega (arith, w.0, w.1)
+pub returns-then-place-eq0-clause-decides : goal.returns-then-place-eq0-clause-decides
+returns-then-place-eq0-clause-decides g c = token_decides _ _ _ _ _ _ _ _ _ c.token.ensures.0 c.leaf.ensures (token_node c.args.source.now c.args.index.now _ c.args.tree.now _ (c.place_at-class.ensures ∙ ap (λ (j : ℕ). get_or c.args.index.now j 0) c.from.ensures) c.production_place-place.ensures c.if-place-eq0.true)
 
-pub own_of-own-requires : goal.own_of-own-requires
-own_of-own-requires c = let w = named_in Tree c.args.source.now c.args.index.now [] _ c.args.tree.now _ (place_tree _ _ refl c.to_usize.ensures.0 c.place_at-class.ensures) c.production_place-place.ensures c.if-place-eq0.false c.requires.0 c.requires.1 (λ i. omega (arith, c.type_inv.tree i)) in (omega (arith, w.0, w.1), c.requires.5, c.requires.6, c.requires.7)
+pub first_operand-requires : goal.first_operand-requires
+first_operand-requires g c =
+    let w = named_in Tree c.args.source.now c.args.index.now [] _ c.args.tree.now _ (place_tree _ _ refl c.from.ensures c.place_at-class.ensures) c.production_place-place.ensures c.if-place-eq0.false c.requires.1 c.requires.2 (λ i. omega (arith, c.type_inv.tree i)) in
+    omega arith
 
-pub overflow_add-result : goal.overflow_add-result
-overflow_add-result c = let w = named_in Tree c.args.source.now c.args.index.now [] _ c.args.tree.now _ (place_tree _ _ refl c.to_usize.ensures.0 c.place_at-class.ensures) c.production_place-place.ensures c.if-place-eq0.false c.requires.0 c.requires.1 (λ i. omega (arith, c.type_inv.tree i)) in omega (arith, w.0, w.1)
+pub last_operand-requires : goal.last_operand-requires
+last_operand-requires g c =
+    let w = named_in Tree c.args.source.now c.args.index.now [] _ c.args.tree.now _ (place_tree _ _ refl c.from.ensures c.place_at-class.ensures) c.production_place-place.ensures c.if-place-eq0.false c.requires.1 c.requires.2 (λ i. omega (arith, c.type_inv.tree i)) in
+    omega arith
 
-pub overflow_add-result-2 : goal.overflow_add-result-2
-overflow_add-result-2 c = let w = named_in Tree c.args.source.now c.args.index.now [] _ c.args.tree.now _ (place_tree _ _ refl c.to_usize.ensures.0 c.place_at-class.ensures) c.production_place-place.ensures c.if-place-eq0.false c.requires.0 c.requires.1 (λ i. omega (arith, c.type_inv.tree i)) in omega (arith, w.0, w.1)
+pub add_own-requires : goal.add_own-requires
+add_own-requires g c =
+    let w = named_in Tree c.args.source.now c.args.index.now [] _ c.args.tree.now _ (place_tree _ _ refl c.from.ensures c.place_at-class.ensures) c.production_place-place.ensures c.if-place-eq0.false c.requires.1 c.requires.2 (λ i. omega (arith, c.type_inv.tree i)) in
+    (c.requires.0, omega arith, c.requires.6, c.requires.7, c.requires.8, c.requires.4)
 
-pub pair_in-requires : goal.pair_in-requires
-pair_in-requires c = let w = named_in Tree c.args.source.now c.args.index.now [] _ c.args.tree.now _ (place_tree _ _ refl c.to_usize.ensures.0 c.place_at-class.ensures) c.production_place-place.ensures c.if-place-eq0.false c.requires.0 c.requires.1 (λ i. omega (arith, c.type_inv.tree i)) in omega (arith, w.0, w.1)
+pub returns-clause-is : goal.returns-clause-is
+returns-clause-is g c =
+    name_goes _ _ _ _ _ _ _ _ _ _ _ (named_node Tree c.args.source.now c.args.index.now [] _ c.args.tree.now _ (place_tree _ _ refl c.from.ensures c.place_at-class.ensures) c.production_place-place.ensures c.if-place-eq0.false c.first_operand.ensures c.last_operand.ensures refl) c.first_operand.ensures
+    c.add_own.ensures c.requires.9 c.add.ensures
 
-pub overflow_add-result-3 : goal.overflow_add-result-3
-overflow_add-result-3 c = let w = named_in Tree c.args.source.now c.args.index.now [] _ c.args.tree.now _ (place_tree _ _ refl c.to_usize.ensures.0 c.place_at-class.ensures) c.production_place-place.ensures c.if-place-eq0.false c.requires.0 c.requires.1 (λ i. omega (arith, c.type_inv.tree i)) in omega (arith, c.pair_in.ensures.1, w.0, w.1)
+pub returns-clause-within : goal.returns-clause-within
+returns-clause-within g c = (
+  omega arith,
+  named_end Tree c.args.source.now c.args.index.now [] _ c.args.tree.now _ (place_tree _ _ refl c.from.ensures c.place_at-class.ensures) c.production_place-place.ensures c.if-place-eq0.false refl,
+  omega arith,
+  omega arith,
+  named_kinds Tree c.args.source.now c.args.index.now [] _ c.args.tree.now _ (place_tree _ _ refl c.from.ensures c.place_at-class.ensures) c.production_place-place.ensures c.if-place-eq0.false c.requires.1 c.requires.2 (λ i. omega (arith, c.type_inv.tree i)) c.first_operand.ensures c.last_operand.ensures,
+)
 
-pub returns : goal.returns
-returns c = let node = named_node Tree c.args.source.now c.args.index.now [] _ c.args.tree.now _ (place_tree _ _ refl c.to_usize.ensures.0 c.place_at-class.ensures) c.production_place-place.ensures c.if-place-eq0.false refl (ap (λ (n : ℕ). c.production_place-place.result + 2 + n) c.pair_in.ensures.0) refl in record { is = name_goes _ _ _ _ _ _ _ _ _ _ _ _ node c.own_of-own.ensures c.add.ensures c.requires.8 c.add-2.ensures; within = (omega arith, named_end Tree c.args.source.now c.args.index.now [] _ c.args.tree.now _ (place_tree _ _ refl c.to_usize.ensures.0 c.place_at-class.ensures) c.production_place-place.ensures c.if-place-eq0.false refl, omega (arith, c.add.ensures), omega (arith, c.add-2.ensures), named_kinds Tree c.args.source.now c.args.index.now [] _ c.args.tree.now _ (place_tree _ _ refl c.to_usize.ensures.0 c.place_at-class.ensures) c.production_place-place.ensures c.if-place-eq0.false c.requires.0 c.requires.1 (λ i. omega (arith, c.type_inv.tree i)) refl (ap (λ (n : ℕ). c.production_place-place.result + 2 + n) c.pair_in.ensures.0)); decides = name_decides _ _ _ _ _ _ _ _ node; childless = name_childless c.args.index.now _ c.args.tree.now _ _ _ c.to_usize.ensures.0 c.place_at-class.ensures c.production_place-place.ensures c.if-place-eq0.false }
+pub returns-clause-decides : goal.returns-clause-decides
+returns-clause-decides g c = name_decides _ _ _ _ _ _ _ _ (named_node Tree c.args.source.now c.args.index.now [] _ c.args.tree.now _ (place_tree _ _ refl c.from.ensures c.place_at-class.ensures) c.production_place-place.ensures c.if-place-eq0.false c.first_operand.ensures c.last_operand.ensures refl)

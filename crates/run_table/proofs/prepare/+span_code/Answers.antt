@@ -1,55 +1,87 @@
-use mathlib.Core.Path.{refl, ◌∙◌}
+use Prim.Native.Nat.{ℕ, ◌+◌}
+use mathlib.Core.Path.{◌≡◌, refl, ◌∙◌}
+use lib.ListN.{get_or}
+use Rattle.format_language.specs.Language.{production_key}
 use native.Mathlib.Omega.{arith}
-use Rattle.tree_reader.proofs.Laws.{kinds_in, name_in}
+use Rattle.tree_reader.proofs.Laws.{kinds_from}
 use Rattle.run_table.specs.Inner.Filling.{target_index}
-use Rattle.run_table.proofs.Spans.{below_none, below_then, sound_beside, asks_beside, set_beside, span_past, span_argument, span_leaf, span_leafed, leaf_low, span_deep, span_unknown, turn_starts, turn_next, turn_ends, ends_as}
-use Prim.Native.Nat.{◌+◌, ◌-◌}
+use Rattle.run_table.proofs.Spans.{below_none, below_then, sound_beside, asks_beside, set_beside, span_past, span_leafed, leaf_low, span_deep, span_unknown, turn_starts, turn_next, turn_ends, ends_as}
 use Rattle.run_table.proofs.prepare.+span_code.Goals as goal
+use Rattle.run_table.proofs.prepare.+span_code.Goals.{then-body-at-via-then-body-at, then-body-at-via-else-body-at+then-levels-eq0, in-Some-leaf_end, in-None}
+
+pub returns-in-Some : goal.returns-in-Some
+returns-in-Some t c = (leaf_low _ _ _ c.requires.2 c.in-Some.ensures, below_none _ 0, span_leafed _ _ _ _ _ _ _ _ c.in-Some.ensures)
 
 pub returns-then-body-at : goal.returns-then-body-at
-returns-then-body-at t c = (omega arith, below_none _ 0, span_past _ _ _ _ _ _ _ _ _ c.if-body-at.true)
+returns-then-body-at t c = (
+  omega arith,
+  below_none _ 0,
+  elim c.then-body-at.branch [
+    | then-body-at-via-then-body-at w ↦ span_past _ _ _ _ _ _ _ _ _ w.if-body-at.true
+    | then-body-at-via-else-body-at+then-levels-eq0 w ↦ span_deep _ _ _ _ _ _ _ _ _ w.if-levels-eq0.true (c.in_default.ensures w.if-body-at.false)
+  ],
+)
 
-pub returns-then-sign-eq3 : goal.returns-then-sign-eq3
-returns-then-sign-eq3 t c = (omega arith, below_none _ 0, span_argument _ _ _ _ _ _ _ c.if-sign-eq3.true)
-
-pub returns-then-sign-ne1 : goal.returns-then-sign-ne1
-returns-then-sign-ne1 t c = (omega arith, below_none _ 0, span_leaf _ _ _ _ _ _ _ c.if-sign-eq3.false c.if-sign-ne1.true)
-
-pub returns-then-levels-eq0 : goal.returns-then-levels-eq0
-returns-then-levels-eq0 t c = (omega arith, below_none _ 0, span_deep _ _ _ _ _ _ _ _ _ c.if-levels-eq0.true c.if-sign-ne1.false)
-
-pub place_of-place-requires : goal.place_of-place-requires
-place_of-place-requires t c = (c.requires.4, c.requires.1)
-
-pub returns-then-place-eq0 : goal.returns-then-place-eq0
-returns-then-place-eq0 t c = (omega arith, below_none _ 0, span_unknown _ _ _ _ _ _ c.requires.1 _ _ (omega (arith, c.byte_at.ensures, c.type_inv.body (c.args.at + 1))) c.byte_at.ensures c.place_of-place.ensures.0 c.if-sign-ne1.false _ _ _ c.if-place-eq0.true)
-
-pub pair_at-requires : goal.pair_at-requires
-pair_at-requires t c = let w = name_in (target_index c.args.table.now) c.args.target.now c.requires.0 refl c.requires.1 (omega (arith, c.byte_at.ensures, c.type_inv.body (c.args.at + 1))) c.place_of-place.ensures.0 c.if-place-eq0.false in omega (arith, w.0)
+pub returns-in_default-place_of : goal.returns-in_default-place_of
+returns-in_default-place_of t c = (
+  omega arith,
+  below_none _ 0,
+  span_unknown _ _ _ _ _ _ c.requires.1 _ _ c.byte_at.type_inv c.byte_at.ensures refl (c.in_default.ensures c.if-body-at.false) _ _ _ c.in_default-place_of.ensures,
+)
 
 pub loop-q-init : goal.loop-q-init
-loop-q-init t c = (omega arith, kinds_in (target_index c.args.table.now) c.args.target.now c.requires.0 refl c.requires.1 (omega (arith, c.byte_at.ensures, c.type_inv.body (c.args.at + 1))) c.place_of-place.ensures.0 c.if-place-eq0.false c.pair_at.ensures.0, below_none _ 0, turn_starts _ _ _ _ _ _ c.requires.1 _ _ (omega (arith, c.byte_at.ensures, c.type_inv.body (c.args.at + 1))) c.byte_at.ensures c.place_of-place.ensures.0 c.if-sign-ne1.false _ _ _ c.requires.4 c.requires.2 c.pair_at.ensures.0 refl (kinds_in (target_index c.args.table.now) c.args.target.now c.requires.0 refl c.requires.1 (omega (arith, c.byte_at.ensures, c.type_inv.body (c.args.at + 1))) c.place_of-place.ensures.0 c.if-place-eq0.false c.pair_at.ensures.0))
-
-pub leaf_end-e-requires : goal.leaf_end-e-requires
-leaf_end-e-requires t c = c.loop-q.invariant.0
-
-pub overflow_add-q-then-e-ne0 : goal.overflow_add-q-then-e-ne0
-overflow_add-q-then-e-ne0 t c = let b = c.loop-q.invariant.1 _ (omega arith) c.loop-q-test.true in let z = c.requires.0 in omega (arith, z.short, b.0)
-
-pub loop-q-preserved-then-e-ne0 : goal.loop-q-preserved-then-e-ne0
-loop-q-preserved-then-e-ne0 t c = (leaf_low _ _ _ c.requires.2 c.leaf_end-e.ensures c.if-e-ne0.true, (λ x i j. c.loop-q.invariant.1 x (omega arith) j), c.loop-q.invariant.2, turn_next _ _ _ _ _ _ _ _ _ _ _ _ _ c.loop-q-test.true (span_leafed _ _ _ _ _ _ _ _ c.leaf_end-e.ensures c.if-e-ne0.true) c.loop-q.invariant.3)
+loop-q-init t c =
+    let is : c.in-Some-place_of.place ≡ get_or (target_index c.args.table.now) (production_key c.args.kind c.byte_at.result) 0 = c.in-Some-place_of.ensures.0 in
+    let kinds = λ (first : ℕ) (e : first ≡ c.in-Some-place_of.place + 4).
+    kinds_from _ c.args.target.now c.requires.0 refl c.requires.1 c.byte_at.type_inv is (λ z. omega arith) e c.last_operand-q-end.ensures in
+    record {
+      low = omega arith;
+      kinds = kinds _ refl;
+      beside = below_none _ 0;
+      turn = turn_starts _ _ _ _ _ _ c.requires.1 _ _ c.byte_at.type_inv c.byte_at.ensures is (c.in_default.ensures c.if-body-at.false) _ _ _ c.requires.4 c.requires.2
+          c.first_operand-q.ensures c.last_operand-q-end.ensures (kinds _ c.first_operand-q.ensures);
+    }
 
 pub bounds-target-q : goal.bounds-target-q
-bounds-target-q t c = (c.loop-q.invariant.1 _ (omega arith) c.loop-q-test.true).0
+bounds-target-q t c = (c.loop-q.invariant.kinds c.loop-q.q (omega arith) c.loop-q-test.true).0
 
 pub span_code-c-requires : goal.span_code-c-requires
-span_code-c-requires t c = let b = c.loop-q.invariant.1 _ (omega arith) c.loop-q-test.true in (omega arith, (sound_beside _ _ c.loop-q.invariant.2 c.requires.4 _ c.requires.0, b.1, c.requires.2, c.loop-q.invariant.0, c.loop-q.invariant.2.long ∙ c.requires.4))
-
-pub overflow_add-q-in-loop-q : goal.overflow_add-q-in-loop-q
-overflow_add-q-in-loop-q t c = let b = c.loop-q.invariant.1 _ (omega arith) c.loop-q-test.true in let z = c.requires.0 in omega (arith, z.short, b.0)
+span_code-c-requires t c = (
+  omega arith,
+  (
+    sound_beside _ _ c.loop-q.invariant.beside c.requires.4 _ c.requires.0,
+    (c.loop-q.invariant.kinds c.loop-q.q (omega arith) c.loop-q-test.true).1,
+    c.requires.2,
+    c.loop-q.invariant.low,
+    c.loop-q.invariant.beside.long ∙ c.requires.4,
+  ),
+)
 
 pub loop-q-preserved : goal.loop-q-preserved
-loop-q-preserved t c = (c.span_code-c.ensures.0, (λ x i j. c.loop-q.invariant.1 x (omega arith) j), below_then _ _ _ 0 0 (omega arith) c.loop-q.invariant.2 c.span_code-c.ensures.1, turn_next _ _ _ _ _ _ _ _ _ _ _ _ _ c.loop-q-test.true (λ l given a w. c.span_code-c.ensures.2 l given a (asks_beside _ _ c.loop-q.invariant.2 c.requires.4 _ _ _ _ _ l given a w)) c.loop-q.invariant.3)
+loop-q-preserved t c =
+    elim c.match-leaf_end-2.branch [
+      | in-Some-leaf_end w ↦
+          rw (w.c-is, w.table-is)
+          (record {
+            low = leaf_low _ _ _ c.requires.2 w.in-Some-leaf_end.ensures;
+            kinds = c.loop-q.invariant.kinds;
+            beside = c.loop-q.invariant.beside;
+            turn = turn_next _ _ _ _ _ _ _ _ _ _ _ _ _ c.loop-q-test.true (span_leafed _ _ _ _ _ _ _ _ w.in-Some-leaf_end.ensures) c.loop-q.invariant.turn;
+          })
+      | in-None w ↦
+          rw (w.c-is, w.table-is)
+          (record {
+            low = w.span_code-c.ensures.0;
+            kinds = c.loop-q.invariant.kinds;
+            beside = below_then _ _ _ 0 0 (omega arith) c.loop-q.invariant.beside w.span_code-c.ensures.1;
+            turn = turn_next _ _ _ _ _ _ _ _ _ _ _ _ _ c.loop-q-test.true
+                (λ l given a x. w.span_code-c.ensures.2 l given a (asks_beside _ _ c.loop-q.invariant.beside c.requires.4 _ _ _ _ _ l given a x)) c.loop-q.invariant.turn;
+          })
+    ]
 
 pub returns : goal.returns
-returns t c = (c.loop-q.invariant.0, set_beside _ _ _ _ _ c.loop-q.invariant.2 (omega arith) c.set_span.ensures, ends_as _ _ c.set_span.ensures (turn_ends _ _ _ _ _ _ _ _ _ _ _ c.loop-q-test.false c.loop-q.invariant.3))
+returns t c = (
+  c.loop-q.invariant.low,
+  set_beside _ _ _ _ _ c.loop-q.invariant.beside (omega arith) c.set_span.ensures,
+  ends_as _ _ c.set_span.ensures (turn_ends _ _ _ _ _ _ _ _ _ _ _ c.loop-q-test.false c.loop-q.invariant.turn),
+)

@@ -1,14 +1,7 @@
-use Prim.Native.Nat.{◌-◌}
 use mathlib.Core.Path.{◌∙◌}
 use native.Mathlib.Omega.{arith}
-use Rattle.run_table.proofs.Itemed.{putting_starts, putting_next, putting_ends}
+use Rattle.run_table.proofs.Itemed.{putting_next, putting_ends}
 use Rattle.run_table.proofs.prepare.put_clauses.Goals as goal
-
-pub loop-p-init : goal.loop-p-init
-loop-p-init c = putting_starts _ _
-
-pub put_clause-requires : goal.put_clause-requires
-put_clause-requires c = (c.requires.0, c.loop-p-test.true, c.loop-p.invariant.around.long ∙ c.requires.1)
 
 pub loop-p-preserved : goal.loop-p-preserved
 loop-p-preserved c = putting_next _ _ _ _ _ _ (λ i. omega (arith, c.type_inv.body i)) (c.loop-p.invariant.around.long ∙ c.requires.1) c.loop-p-test.true c.field_end-p.ensures.is c.put_clause.ensures c.loop-p.invariant

@@ -1,12 +1,8 @@
-use Prim.Native.Nat.{◌-◌}
 use mathlib.Core.Path.{◌∙◌}
 use native.Mathlib.Omega.{arith}
-use Rattle.run_table.proofs.Spans.{below_none, below_then, sound_beside, fields_beside}
-use Rattle.run_table.proofs.Clauses.{walk_starts, walk_next, walk_ends}
+use Rattle.run_table.proofs.Spans.{below_then, sound_beside, fields_beside}
+use Rattle.run_table.proofs.Clauses.{walk_next, walk_ends}
 use Rattle.run_table.proofs.prepare.span_all.Goals as goal
-
-pub loop-p-init : goal.loop-p-init
-loop-p-init c = (below_none _ 0, walk_starts _ _ _ _ _)
 
 pub span_field-requires : goal.span_field-requires
 span_field-requires c = (sound_beside _ _ c.loop-p.invariant.0 c.requires.2 _ c.requires.0, c.requires.1, c.loop-p-test.true, c.loop-p.invariant.0.long ∙ c.requires.2)

@@ -1,4 +1,3 @@
-use Prim.Native.Nat.{◌-◌}
 use mathlib.Core.Path.{sym, ◌∙◌}
 use Rattle.run_table.proofs.Finding.{finding_starts, finding_hit, finding_next, finding_ends}
 use Rattle.run_table.proofs.table.walk_start.Goals as goal

@@ -1,4 +1,3 @@
-use Prim.Native.Nat.{◌-◌}
 use mathlib.Core.Path.{◌≡◌}
 use lib.ListN.{length}
 use Rattle.format_language.specs.Language.{Language}
@@ -9,9 +8,6 @@ use Rattle.score_tree.specs.Inner.Terms.{TermAsks}
 use Rattle.score_join.proofs.Joins.{Figuring}
 use Rattle.score_join.proofs.join.join_figures.Given as goal
 
-abbrev pub invariant-loop-j : goal.invariant-loop-j
-invariant-loop-j here = (length here.joined ≡ length here.initial.joined)
-    × ((l : Language) (given : Uses) (w : Loads) (u : Code) → TermAsks here.target here.index here.figures here.body here.kind here.at 16 l given w u → Figuring w u here.count here.initial.joined here.joined here.pos here.to here.j)
-
-abbrev pub decreases-loop-j : goal.decreases-loop-j
-decreases-loop-j l = l.count - l.j
+abbrev pub invariant-loop-z : goal.invariant-loop-z
+invariant-loop-z here = (length here.joined ≡ length here.initial.joined)
+    × ((l : Language) (given : Uses) (w : Loads) (u : Code) → TermAsks here.target here.body here.kind here.at 16 l given w u → Figuring w u here.count here.initial.joined here.joined here.pos here.to here.z-index)

@@ -8,7 +8,7 @@ use Rattle.score_join.proofs.Joins.{Joins}
 use Rattle.score_join.proofs.join.join_loads.Given as goal
 
 abbrev pub invariant-loop-p : goal.invariant-loop-p
-invariant-loop-p l = (length l.joined ≡ length l.initial.joined) × ((f : Translation) (w : Loads) → Parts l.source l.target l.index l.body l.items l.figures f w → Joins l.source f w l.initial.joined l.joined l.p l.n)
+invariant-loop-p l = (length l.joined ≡ length l.initial.joined) × ((f : Translation) (w : Loads) → Parts l.held f w → Joins l.held.source.now f w l.initial.joined l.joined l.p l.n)
 
 abbrev pub decreases-loop-p : goal.decreases-loop-p
 decreases-loop-p l = length l.source - l.p

@@ -1,4 +1,4 @@
-use Prim.Native.Nat.{◌+◌, ◌-◌, ◌*◌}
+use Prim.Native.Nat.{◌+◌, ◌*◌}
 use mathlib.Core.List.{List}
 use lib.ListN.{length}
 use Rattle.format_language.specs.Language.{Language}
@@ -17,8 +17,5 @@ abbrev pub decreases-form_node : goal.decreases-form_node
 decreases-form_node l = 2 * l.left + 1
 
 abbrev pub invariant-form_node-loop-q : goal.invariant-form_node-loop-q
-invariant-form_node-loop-q here = (l : Language) (given : Uses) (w : Loads) (k p : ℕ) (ts : Codes) (ks : List ℕ) → NodeAsks here.language here.index here.figures here.production here.bytes here.at here.left l given w k p ts ks
-    → Walking here.language here.figures here.bytes l given w (node k p ts) ts here.stop (here.at + length (all_bytes ts)) here.left here.count here.row here.q here.to
-
-abbrev pub decreases-form_node-loop-q : goal.decreases-form_node-loop-q
-decreases-form_node-loop-q l = l.stop - l.q
+invariant-form_node-loop-q here = (l : Language) (given : Uses) (w : Loads) (k p : ℕ) (ts : Codes) (ks : List ℕ) → NodeAsks here.loaded here.production here.bytes here.at here.left l given w k p ts ks
+    → Walking here.loaded.language.now here.loaded.figures.now here.bytes l given w (node k p ts) ts here.stop (here.at + length (all_bytes ts)) here.left here.count here.row here.q here.to

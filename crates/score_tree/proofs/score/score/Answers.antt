@@ -1,8 +1,14 @@
-use mir.Syntax.{w64}
-use Rattle.score_tree.proofs.Integers.{told}
-use Rattle.score_tree.proofs.Answering.{score_is}
 use borrow.Author.Rules.{rules}
+use mir.Syntax.{w64}
+use mir.Val.{SFits}
+use mir.Facts.{to_z-of_z}
+use Rattle.score_tree.proofs.Answering.{score_is}
 use Rattle.score_tree.proofs.score.score.Goals as goal
 
-pub returns : goal.returns
-returns c = score_is _ _ _ _ c.score_plan-scored.ensures _ (told w64 c.score_plan-scored.result.least (search rules))
+pub returns-in-Ok : goal.returns-in-Ok
+returns-in-Ok c =
+    let f : SFits w64 c.in-Ok.ends.least = search rules in
+    rw (to_z-of_z f) (score_is _ _ _ _ c.in-Ok.ensures)
+
+pub returns-in-Err : goal.returns-in-Err
+returns-in-Err c = score_is _ _ _ _ c.in-Err.ensures

@@ -1,4 +1,4 @@
-use Prim.Native.Nat.{◌+◌, ◌-◌, ◌*◌}
+use Prim.Native.Nat.{◌+◌, ◌*◌}
 use mathlib.Core.List.{List}
 use Rattle.format_language.specs.Language.{Language}
 use Rattle.score_tree.specs.Linear.{Loads}
@@ -15,8 +15,5 @@ abbrev pub decreases-node_ends : goal.decreases-node_ends
 decreases-node_ends l = 2 * l.levels + 1
 
 abbrev pub invariant-node_ends-loop-i : goal.invariant-node_ends-loop-i
-invariant-node_ends-loop-i here = (l : Language) (w : Loads) (k p : ℕ) (ks : List ℕ) → RowAsks here.language here.index here.figures here.production here.bytes here.at l w k p ks
-    → Going (read_spread here.width l w here.levels) here.language here.production here.bytes here.at ks here.count here.least here.greatest here.within here.i here.to
-
-abbrev pub decreases-node_ends-loop-i : goal.decreases-node_ends-loop-i
-decreases-node_ends-loop-i l = l.count - l.i
+invariant-node_ends-loop-i here = (l : Language) (w : Loads) (k p : ℕ) (ks : List ℕ) → RowAsks here.loaded here.production here.bytes here.at l w k p ks
+    → Going (read_spread here.tokens l w here.levels) here.loaded.language.now here.production here.bytes here.at ks here.count here.operands here.within here.i here.to

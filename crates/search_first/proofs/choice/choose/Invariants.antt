@@ -1,15 +1,15 @@
-use Prim.Native.Nat.{◌-◌, ◌≤◌}
+use Prim.Native.Nat.{◌-◌}
 use mathlib.Core.Path.{◌≡◌}
 use lib.ListN.{length}
 use Rattle.format_translation.specs.Translation.{Translation}
 use Rattle.format_translation.specs.Running.{clauses_of}
 use Rattle.search_sources.specs.Inner.Goals.{Goal}
-use Rattle.search_levels.specs.Inner.Setting.{Truthful, Named, Seeks}
+use Rattle.search_levels.specs.Inner.Setting.{Truthful, IsNamed, up_to, Seeks}
 use Rattle.search_first.proofs.Choosing.{NoneBelow}
 use Rattle.search_first.proofs.choice.choose.Given as goal
 
-abbrev pub invariant-loop-name : goal.invariant-loop-name
-invariant-loop-name l = (l.name ≤ 256) × Named l.table l.kind l.name × (length l.memory ≡ length l.initial.memory) × (length l.free ≡ length l.initial.free) × ((f : Translation) (g : Goal) → Seeks l.table l.source l.target l.places l.kinds l.tree l.initial.memory l.initial.free l.kind l.at f g → Truthful f l.tree l.memory l.free × NoneBelow f.source (clauses_of f) l.n l.kind g l.name)
+abbrev pub invariant-loop-next : goal.invariant-loop-next
+invariant-loop-next l = IsNamed l.searched.table.now l.kind l.next × (length l.memory ≡ length l.initial.memory) × (length l.free ≡ length l.initial.free) × ((f : Translation) (g : Goal) → Seeks l.searched.table.now l.searched.source.now l.searched.target.now l.searched.places.now l.searched.kinds.now l.searched.tree.now l.initial.memory l.initial.free l.kind l.at f g → Truthful f l.searched.tree.now l.memory l.free × NoneBelow f.source (clauses_of f) l.n l.kind g (up_to l.next))
 
-abbrev pub decreases-loop-name : goal.decreases-loop-name
-decreases-loop-name l = 256 - l.name
+abbrev pub decreases-loop-next : goal.decreases-loop-next
+decreases-loop-next l = 256 - up_to l.next

@@ -1,21 +1,15 @@
-use Prim.Native.Nat.{◌-◌}
 use mathlib.Core.Path.{refl, ◌∙◌}
 use native.Mathlib.Omega.{arith}
 use Rattle.search_levels.proofs.Needing.{plain, class_positive, class_whole, seeks_still, name_known, asks_match, name_unmatched, name_seeks, count_inside, count_is, kind_inside, operand_seeks, operand_kind}
+use Rattle.search_first.proofs.Choosing.{with_name}
 use Rattle.search_first.proofs.Putting.{puts_past, puts_same, token_written, no_levels, one_level, node_put, first_of, unknown_none, go_on, going_start, going_end, going_first, going_next}
 use Rattle.search_first.proofs.put.+put_first_put_node_put_operands.Goals as goal
 
 pub put_first-returns-then-limit-pos : goal.put_first-returns-then-limit-pos
 put_first-returns-then-limit-pos t c = (omega arith, refl, refl, refl, λ f g h. (h.truthful, λ t z. puts_past _ _ _ _ c.if-limit-pos.true c.requires.1))
 
-pub put_first-index_at-class-requires : goal.put_first-index_at-class-requires
-put_first-index_at-class-requires t c = omega (arith, c.requires.2.2.kind)
-
 pub put_first-token_value-requires : goal.put_first-token_value-requires
 put_first-token_value-requires t c = let q = c.requires.2 in (class_positive _ _ _ _ _ _ _ _ _ _ q.0 q.1 q.2 _ c.index_at-class.ensures.0 c.if-class-ne0.true, class_whole _ _ _ _ _ _ _ _ _ _ q.0 q.1 q.2 _ c.index_at-class.ensures.0 c.if-class-ne0.true)
-
-pub put_first-put_value-requires : goal.put_first-put_value-requires
-put_first-put_value-requires t c = (c.requires.1, c.token_value.ensures.1)
 
 pub put_first-returns-then-class-ne0 : goal.put_first-returns-then-class-ne0
 put_first-returns-then-class-ne0 t c = (c.put_value.ensures.0, refl, refl, c.put_value.ensures.1.long, λ f g h. (h.truthful, λ t z. puts_same (token_written _ _ _ _ _ _ _ _ _ _ f g h _ c.index_at-class.ensures.0 c.if-class-ne0.true _ t z c.token_value.ensures.0) c.put_value.ensures.1))
@@ -23,35 +17,14 @@ put_first-returns-then-class-ne0 t c = (c.put_value.ensures.0, refl, refl, c.put
 pub put_first-returns-then-n-eq0 : goal.put_first-returns-then-n-eq0
 put_first-returns-then-n-eq0 t c = (c.requires.1, refl, refl, refl, λ f g h. (h.truthful, λ t z. absurd (no_levels _ _ _ _ _ _ _ _ _ _ f g h (plain _ _ _ _ _ _ _ _ _ _ f g h _ c.index_at-class.ensures.0 c.if-class-ne0.false) _ c.if-n-eq0.true t z)))
 
-pub put_first-overflow_sub-levels : goal.put_first-overflow_sub-levels
-put_first-overflow_sub-levels t c = omega (arith, c.if-n-eq0.false)
-
-pub put_first-choose-name-requires : goal.put_first-choose-name-requires
-put_first-choose-name-requires t c = (omega (arith, c.requires.0), c.requires.2)
-
-pub put_first-returns-then-name-ge-NAMES : goal.put_first-returns-then-name-ge-NAMES
-put_first-returns-then-name-ge-NAMES t c = (c.requires.1, c.choose-name.ensures.2, c.choose-name.ensures.3, refl, λ f g h. let w = c.choose-name.ensures.4 f g h in (w.0, λ t z. let y = one_level _ _ _ _ _ _ _ _ _ _ f g h _ c.if-n-eq0.false t z in let e = w.1 t (plain _ _ _ _ _ _ _ _ _ _ f g h _ c.index_at-class.ensures.0 c.if-class-ne0.false) y in let o = e.2 in absurd (omega (arith, c.if-name-ge-NAMES.true))))
-
-pub put_first-overflow_cast-name : goal.put_first-overflow_cast-name
-put_first-overflow_cast-name t c = omega (arith, c.if-name-ge-NAMES.false)
-
-pub put_first-put_byte-next-requires : goal.put_first-put_byte-next-requires
-put_first-put_byte-next-requires t c = c.requires.1
+pub put_first-returns-in_default : goal.put_first-returns-in_default
+put_first-returns-in_default t c = (c.requires.1, c.choose.ensures.1, c.choose.ensures.2, refl, λ f g h. let w = c.choose.ensures.3 f g h in (w.0, λ t z. let y = one_level _ _ _ _ _ _ _ _ _ _ f g h _ c.if-n-eq0.false t z in let e = w.1 t (plain _ _ _ _ _ _ _ _ _ _ f g h _ c.index_at-class.ensures.0 c.if-class-ne0.false) y in absurd (c.in_default.not-Some e.0 e.1)))
 
 pub put_first-put_node-requires : goal.put_first-put_node-requires
-put_first-put_node-requires t c = let q = c.requires.2 in (omega (arith, c.decreases, c.if-n-eq0.false), (omega (arith, c.requires.0), c.if-name-ge-NAMES.false, c.choose-name.ensures.1, c.put_byte-next.ensures.0, (q.0, q.1, seeks_still _ _ _ _ _ _ _ _ _ _ q.0 q.1 q.2 _ _ (c.choose-name.ensures.4 q.0 q.1 q.2).0)))
+put_first-put_node-requires t c = let q = c.requires.2 in (omega (arith, c.decreases, c.if-n-eq0.false), (omega (arith, c.requires.0), c.in-Some.ensures.0.0, c.in-Some.ensures.0.1, c.put_byte-next.ensures.0, (q.0, q.1, seeks_still _ _ _ _ _ _ _ _ _ _ q.0 q.1 q.2 _ _ (c.in-Some.ensures.3 q.0 q.1 q.2).0)))
 
 pub put_first-returns : goal.put_first-returns
-put_first-returns t c = (c.put_node.ensures.0, c.put_node.ensures.1 ∙ c.choose-name.ensures.2, c.put_node.ensures.2 ∙ c.choose-name.ensures.3, c.put_node.ensures.3 ∙ c.put_byte-next.ensures.1.long, λ f g h. let w = c.choose-name.ensures.4 f g h in let r = c.put_node.ensures.4 f g (seeks_still _ _ _ _ _ _ _ _ _ _ f g h _ _ w.0) in (r.0, λ t z. let y = one_level _ _ _ _ _ _ _ _ _ _ f g h _ c.if-n-eq0.false t z in let e = w.1 t (plain _ _ _ _ _ _ _ _ _ _ f g h _ c.index_at-class.ensures.0 c.if-class-ne0.false) y in node_put _ _ _ e.0 t _ _ _ _ _ _ c.requires.1 e.1 c.put_byte-next.ensures.1 (r.1 e.0 (first_of e.1 y))))
-
-pub put_node-production_key-key-requires : goal.put_node-production_key-key-requires
-put_node-production_key-key-requires t c = (c.requires.4.2.kind, c.requires.1)
-
-pub put_node-index_at-place-requires : goal.put_node-index_at-place-requires
-put_node-index_at-place-requires t c = c.production_key-key.ensures.1
-
-pub put_node-clause_at-clause-requires : goal.put_node-clause_at-clause-requires
-put_node-clause_at-clause-requires t c = c.production_key-key.ensures.1
+put_first-returns t c = (c.put_node.ensures.0, c.put_node.ensures.1 ∙ c.in-Some.ensures.1, c.put_node.ensures.2 ∙ c.in-Some.ensures.2, c.put_node.ensures.3 ∙ c.put_byte-next.ensures.1.long, λ f g h. let w = c.in-Some.ensures.3 f g h in let r = c.put_node.ensures.4 f g (seeks_still _ _ _ _ _ _ _ _ _ _ f g h _ _ w.0) in (r.0, λ t z. let y = one_level _ _ _ _ _ _ _ _ _ _ f g h _ c.if-n-eq0.false t z in let e = with_name (w.1 t (plain _ _ _ _ _ _ _ _ _ _ f g h _ c.index_at-class.ensures.0 c.if-class-ne0.false) y) in node_put _ _ _ e.0 t _ _ _ _ _ _ c.requires.1 e.1 c.put_byte-next.ensures.1 (r.1 e.0 (first_of e.1 y))))
 
 pub put_node-matches-requires : goal.put_node-matches-requires
 put_node-matches-requires t c = let q = c.requires.4 in let n = name_known _ _ _ _ _ _ _ _ _ _ q.0 q.1 q.2 _ c.requires.1 c.requires.2 in (q.0, _, _, n.0, q.1, asks_match _ _ _ _ _ _ _ _ _ _ q.0 q.1 q.2 _ c.requires.1 n.0 n.1 _ _ _ c.index_at-place.ensures.0 c.clause_at-clause.ensures.0 c.production_key-key.ensures.0 _ refl)
@@ -75,34 +48,22 @@ pub put_operands-overflow_sub-count : goal.put_operands-overflow_sub-count
 put_operands-overflow_sub-count t c = let q = c.requires.2 in let x = (count_is _ _ _ _ _ _ _ _ _ _ q.0 q.1 q.2 q.3 c.source_at-count.ensures.0).0 in omega arith
 
 pub put_operands-loop-j-init : goal.put_operands-loop-j-init
-put_operands-loop-j-init t c = let q = c.requires.2 in let x = count_is _ _ _ _ _ _ _ _ _ _ q.0 q.1 q.2 q.3 c.source_at-count.ensures.0 in (omega arith, omega (arith, x.0, x.1), c.requires.1, refl, refl, refl, λ f ks b h. let y = (count_is _ _ _ _ _ _ _ _ _ _ f ks b h c.source_at-count.ensures.0).0 in (omega arith, h.truthful, λ s z. going_start _ _ _ ks b _ s _ _ c.requires.1 z))
+put_operands-loop-j-init t c = let q = c.requires.2 in let x = count_is _ _ _ _ _ _ _ _ _ _ q.0 q.1 q.2 q.3 c.source_at-count.ensures.0 in (omega (arith, x.0, x.1), c.requires.1, refl, refl, refl, λ f ks b h. let y = (count_is _ _ _ _ _ _ _ _ _ _ f ks b h c.source_at-count.ensures.0).0 in (omega arith, h.truthful, λ s z. going_start _ _ _ ks b _ s _ _ c.requires.1 z))
 
 pub put_operands-first_operand-requires : goal.put_operands-first_operand-requires
 put_operands-first_operand-requires t c = let q = c.requires.2 in let x = count_inside _ _ _ _ _ _ _ _ _ _ q.0 q.1 q.2 q.3 in omega arith
 
 pub put_operands-overflow_add-first_operand : goal.put_operands-overflow_add-first_operand
-put_operands-overflow_add-first_operand t c = let q = c.requires.2 in let x = count_inside _ _ _ _ _ _ _ _ _ _ q.0 q.1 q.2 q.3 in omega (arith, c.first_operand.ensures, c.loop-j.invariant.0, c.loop-j.invariant.1)
+put_operands-overflow_add-first_operand t c = let q = c.requires.2 in let x = count_inside _ _ _ _ _ _ _ _ _ _ q.0 q.1 q.2 q.3 in omega (arith, c.first_operand.ensures, c.loop-j-test.true, c.loop-j.invariant.0)
 
 pub put_operands-source_at-kind-requires : goal.put_operands-source_at-kind-requires
-put_operands-source_at-kind-requires t c = let q = c.requires.2 in let w = c.loop-j.invariant.6 q.0 q.1 q.2 q.3 in let y = c.loop-j-test.true in kind_inside _ _ _ _ _ _ _ _ _ _ q.0 q.1 q.2 q.3 _ (omega (arith, w.0, y)) c.first_operand.ensures
-
-pub put_operands-offset_bounds-bound-j : goal.put_operands-offset_bounds-bound-j
-put_operands-offset_bounds-bound-j t c = omega (arith, c.loop-j.invariant.1, c.loop-j-test.true)
-
-pub put_operands-bounds-bound-j : goal.put_operands-bounds-bound-j
-put_operands-bounds-bound-j t c = omega (arith, c.loop-j.invariant.1, c.loop-j-test.true)
+put_operands-source_at-kind-requires t c = let q = c.requires.2 in let w = c.loop-j.invariant.5 q.0 q.1 q.2 q.3 in let y = c.loop-j-test.true in kind_inside _ _ _ _ _ _ _ _ _ _ q.0 q.1 q.2 q.3 _ (omega (arith, w.0, y)) c.first_operand.ensures
 
 pub put_operands-put_first-pos-requires : goal.put_operands-put_first-pos-requires
-put_operands-put_first-pos-requires t c = let q = c.requires.2 in let w = c.loop-j.invariant.6 q.0 q.1 q.2 q.3 in let y = c.loop-j-test.true in (omega (arith, c.decreases), (c.requires.0, c.loop-j.invariant.2, (q.0, _, operand_seeks _ _ _ _ _ _ _ _ _ _ q.0 q.1 q.2 q.3 _ (omega (arith, w.0, y)) _ _ w.1 c.first_operand.ensures c.source_at-kind.ensures.0)))
-
-pub put_operands-overflow_add-j : goal.put_operands-overflow_add-j
-put_operands-overflow_add-j t c = omega (arith, c.loop-j.invariant.1, c.loop-j-test.true)
-
-pub put_operands-loop-j-smaller : goal.put_operands-loop-j-smaller
-put_operands-loop-j-smaller t c = omega (arith, c.loop-j-test.true)
+put_operands-put_first-pos-requires t c = let q = c.requires.2 in let w = c.loop-j.invariant.5 q.0 q.1 q.2 q.3 in let y = c.loop-j-test.true in (omega (arith, c.decreases), (c.requires.0, c.loop-j.invariant.1, (q.0, _, operand_seeks _ _ _ _ _ _ _ _ _ _ q.0 q.1 q.2 q.3 _ (omega (arith, w.0, y)) _ _ w.1 c.first_operand.ensures c.source_at-kind.ensures.0)))
 
 pub put_operands-loop-j-preserved : goal.put_operands-loop-j-preserved
-put_operands-loop-j-preserved t c = (omega (arith, c.loop-j-test.true), c.loop-j.invariant.1, c.put_first-pos.ensures.0, c.put_first-pos.ensures.1 ∙ c.loop-j.invariant.3, c.put_first-pos.ensures.2 ∙ c.loop-j.invariant.4, c.put_first-pos.ensures.3 ∙ c.loop-j.invariant.5, λ f ks b h. let w = c.loop-j.invariant.6 f ks b h in let y = c.loop-j-test.true in let r = c.put_first-pos.ensures.4 f _ (operand_seeks _ _ _ _ _ _ _ _ _ _ f ks b h _ (omega (arith, w.0, y)) _ _ w.1 c.first_operand.ensures c.source_at-kind.ensures.0) in (w.0, r.0, λ s z. let v = w.2 s z in going_next _ _ _ ks b _ s _ _ c.requires.1 _ _ _ v (omega (arith, w.0, y)) _ _ (r.1 _ (going_first _ _ _ ks b _ s _ _ c.requires.1 _ _ _ v (omega (arith, w.0, y)) (operand_kind _ _ _ _ _ _ _ _ _ _ f ks b h _ (omega (arith, w.0, y)) c.first_operand.ensures c.source_at-kind.ensures.0)))))
+put_operands-loop-j-preserved t c = (c.loop-j.invariant.0, c.put_first-pos.ensures.0, c.put_first-pos.ensures.1 ∙ c.loop-j.invariant.2, c.put_first-pos.ensures.2 ∙ c.loop-j.invariant.3, c.put_first-pos.ensures.3 ∙ c.loop-j.invariant.4, λ f ks b h. let w = c.loop-j.invariant.5 f ks b h in let y = c.loop-j-test.true in let r = c.put_first-pos.ensures.4 f _ (operand_seeks _ _ _ _ _ _ _ _ _ _ f ks b h _ (omega (arith, w.0, y)) _ _ w.1 c.first_operand.ensures c.source_at-kind.ensures.0) in (w.0, r.0, λ s z. let v = w.2 s z in going_next _ _ _ ks b _ s _ _ c.requires.1 _ _ _ v (omega (arith, w.0, y)) _ _ (r.1 _ (going_first _ _ _ ks b _ s _ _ c.requires.1 _ _ _ v (omega (arith, w.0, y)) (operand_kind _ _ _ _ _ _ _ _ _ _ f ks b h _ (omega (arith, w.0, y)) c.first_operand.ensures c.source_at-kind.ensures.0)))))
 
 pub put_operands-returns : goal.put_operands-returns
-put_operands-returns t c = (c.loop-j.invariant.2, c.loop-j.invariant.3, c.loop-j.invariant.4, c.loop-j.invariant.5, λ f ks b h. let w = c.loop-j.invariant.6 f ks b h in (w.1, λ s z. going_end _ _ _ ks b _ s _ _ c.requires.1 _ _ _ (w.2 s z) (omega (arith, w.0, c.loop-j-test.false))))
+put_operands-returns t c = (c.loop-j.invariant.1, c.loop-j.invariant.2, c.loop-j.invariant.3, c.loop-j.invariant.4, λ f ks b h. let w = c.loop-j.invariant.5 f ks b h in (w.1, λ s z. going_end _ _ _ ks b _ s _ _ c.requires.1 _ _ _ (w.2 s z) (omega (arith, w.0, c.loop-j-test.false))))

@@ -1,4 +1,4 @@
-use Prim.Native.Nat.{ℕ, ◌+◌, ◌-◌, ◌*◌, ◌≤◌}
+use Prim.Native.Nat.{ℕ, ◌+◌, ◌*◌, ◌≤◌}
 use mathlib.Core.Path.{◌≡◌}
 use mathlib.Core.List.{List}
 use lib.ListN.{length}
@@ -20,7 +20,4 @@ abbrev pub decreases-put_operands : goal.decreases-put_operands
 decreases-put_operands l = l.wanted.levels * 3 + 1
 
 abbrev pub invariant-put_operands-loop-j : goal.invariant-put_operands-loop-j
-invariant-put_operands-loop-j l = (l.j ≤ l.count) × (l.count ≤ 8) × (l.pos ≤ l.limit) × (length l.memory ≡ length l.initial.memory) × (length l.free ≡ length l.initial.free) × (length l.output ≡ length l.initial.output) × ((f : Translation) (ks : List ℕ) (b : ℕ → Goal) → SeeksAll l.table l.source l.target l.places l.kinds l.tree l.initial.memory l.initial.free l.bound l.place f ks b → (l.count ≡ length ks) × Truthful f l.tree l.memory l.free × ((s : Codes) → FirstAll f.source (clauses_of f) l.levels ks b s → Going f.source (clauses_of f) l.levels ks b l.j l.limit s l.initial.output l.output l.initial.pos l.pos))
-
-abbrev pub decreases-put_operands-loop-j : goal.decreases-put_operands-loop-j
-decreases-put_operands-loop-j l = l.count - l.j
+invariant-put_operands-loop-j l = (l.count ≤ 8) × (l.pos ≤ l.wanted.limit) × (length l.memory ≡ length l.initial.memory) × (length l.free ≡ length l.initial.free) × (length l.output ≡ length l.initial.output) × ((f : Translation) (ks : List ℕ) (b : ℕ → Goal) → SeeksAll l.searched.table.now l.searched.source.now l.searched.target.now l.searched.places.now l.searched.kinds.now l.searched.tree.now l.initial.memory l.initial.free l.bound l.place f ks b → (l.count ≡ length ks) × Truthful f l.searched.tree.now l.memory l.free × ((s : Codes) → FirstAll f.source (clauses_of f) l.wanted.levels ks b s → Going f.source (clauses_of f) l.wanted.levels ks b l.j l.wanted.limit s l.initial.output l.output l.initial.pos l.pos))

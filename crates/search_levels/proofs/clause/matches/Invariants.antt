@@ -7,7 +7,7 @@ use Rattle.search_levels.proofs.Whole.{Going}
 use Rattle.search_levels.proofs.clause.matches.Given as goal
 
 abbrev pub invariant-loop-c : goal.invariant-loop-c
-invariant-loop-c l = (l.stop ≤ 4096) × ((f : Translation) (k p : ℕ) (ks : List ℕ) (g : Goal) → MatchAsks l.table l.target l.places l.kinds l.tree l.memory l.initial.bound l.place l.clause l.at f k p ks g → Going l.table l.tree l.bound l.c l.stop l.to f k p ks g)
+invariant-loop-c l = (l.stop ≤ 4096) × ((f : Translation) (k p : ℕ) (ks : List ℕ) (g : Goal) → MatchAsks l.searched.table.now l.searched.target.now l.searched.places.now l.searched.kinds.now l.searched.tree.now l.memory l.initial.bound l.place l.clause l.at f k p ks g → Going l.searched.table.now l.searched.tree.now l.bound l.c l.stop l.to f k p ks g)
 
 abbrev pub decreases-loop-c : goal.decreases-loop-c
 decreases-loop-c l = l.stop - l.c

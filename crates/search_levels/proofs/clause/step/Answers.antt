@@ -23,17 +23,17 @@ returns-then-sign-eq-ARGUMENT c = λ stop f ks js cs us b h. argument_step _ _ _
 pub body_at-requires : goal.body_at-requires
 body_at-requires c = let p = c.requires in next_inside _ _ _ _ _ _ _ _ _ _ _ _ _ _ _ _ _ p.7
 
-pub returns-then-to_usize-body_at : goal.returns-then-to_usize-body_at
-returns-then-to_usize-body_at c = λ stop f ks js cs us b h. first_differs _ _ _ _ _ _ _ _ _ _ _ _ _ _ _ _ _ h (λ e. c.if-sign-eq-ARGUMENT.false (c.body_at-sign.ensures.0 ∙ e)) (λ e. c.if-to_usize-body_at.true (c.to_usize.ensures.0 ∙ (c.byte_at.ensures ∙ (sym e ∙ sym c.body_at.ensures.0))))
+pub returns-then-from-body_at : goal.returns-then-from-body_at
+returns-then-from-body_at c = λ stop f ks js cs us b h. first_differs _ _ _ _ _ _ _ _ _ _ _ _ _ _ _ _ _ h (λ e. c.if-sign-eq-ARGUMENT.false (c.body_at-sign.ensures.0 ∙ e)) (λ e. c.if-from-body_at.true (c.from.ensures ∙ (c.byte_at.ensures ∙ (sym e ∙ sym c.body_at.ensures.0))))
 
 pub returns-then-sign-ne-TOKEN : goal.returns-then-sign-ne-TOKEN
-returns-then-sign-ne-TOKEN c = λ stop f ks js cs us b h. name_step _ _ _ _ _ _ _ _ _ _ _ _ _ _ _ _ _ h (λ e. c.if-sign-eq-ARGUMENT.false (c.body_at-sign.ensures.0 ∙ e)) (sym c.body_at.ensures.0 ∙ (sym c.if-to_usize-body_at.false ∙ (c.to_usize.ensures.0 ∙ c.byte_at.ensures))) (λ e. c.if-sign-ne-TOKEN.true (c.body_at-sign.ensures.0 ∙ e))
+returns-then-sign-ne-TOKEN c = λ stop f ks js cs us b h. name_step _ _ _ _ _ _ _ _ _ _ _ _ _ _ _ _ _ h (λ e. c.if-sign-eq-ARGUMENT.false (c.body_at-sign.ensures.0 ∙ e)) (sym c.body_at.ensures.0 ∙ (sym c.if-from-body_at.false ∙ (c.from.ensures ∙ c.byte_at.ensures))) (λ e. c.if-sign-ne-TOKEN.true (c.body_at-sign.ensures.0 ∙ e))
 
 pub body_at-requires-2 : goal.body_at-requires-2
-body_at-requires-2 c = let p = c.requires in token_inside _ _ _ _ _ _ _ _ _ _ _ _ _ _ _ _ _ p.7 (λ e. c.if-sign-eq-ARGUMENT.false (c.body_at-sign.ensures.0 ∙ e)) (sym c.body_at.ensures.0 ∙ (sym c.if-to_usize-body_at.false ∙ (c.to_usize.ensures.0 ∙ c.byte_at.ensures))) (sym c.body_at-sign.ensures.0 ∙ c.if-sign-ne-TOKEN.false)
+body_at-requires-2 c = let p = c.requires in token_inside _ _ _ _ _ _ _ _ _ _ _ _ _ _ _ _ _ p.7 (λ e. c.if-sign-eq-ARGUMENT.false (c.body_at-sign.ensures.0 ∙ e)) (sym c.body_at.ensures.0 ∙ (sym c.if-from-body_at.false ∙ (c.from.ensures ∙ c.byte_at.ensures))) (sym c.body_at-sign.ensures.0 ∙ c.if-sign-ne-TOKEN.false)
 
-pub returns-then-to_usize-body_at-2 : goal.returns-then-to_usize-body_at-2
-returns-then-to_usize-body_at-2 c = λ stop f ks js cs us b h. second_differs _ _ _ _ _ _ _ _ _ _ _ _ _ _ _ _ _ h (λ e. c.if-sign-eq-ARGUMENT.false (c.body_at-sign.ensures.0 ∙ e)) (sym c.body_at.ensures.0 ∙ (sym c.if-to_usize-body_at.false ∙ (c.to_usize.ensures.0 ∙ c.byte_at.ensures))) (sym c.body_at-sign.ensures.0 ∙ c.if-sign-ne-TOKEN.false) (λ e. c.if-to_usize-body_at-2.true (c.to_usize-2.ensures.0 ∙ (c.byte_at-2.ensures ∙ (sym e ∙ sym c.body_at-2.ensures.0))))
+pub returns-then-from-body_at-2 : goal.returns-then-from-body_at-2
+returns-then-from-body_at-2 c = λ stop f ks js cs us b h. second_differs _ _ _ _ _ _ _ _ _ _ _ _ _ _ _ _ _ h (λ e. c.if-sign-eq-ARGUMENT.false (c.body_at-sign.ensures.0 ∙ e)) (sym c.body_at.ensures.0 ∙ (sym c.if-from-body_at.false ∙ (c.from.ensures ∙ c.byte_at.ensures))) (sym c.body_at-sign.ensures.0 ∙ c.if-sign-ne-TOKEN.false) (λ e. c.if-from-body_at-2.true (c.from-2.ensures ∙ (c.byte_at-2.ensures ∙ (sym e ∙ sym c.body_at-2.ensures.0))))
 
 pub returns : goal.returns
-returns c = λ stop f ks js cs us b h. token_step _ _ _ _ _ _ _ _ _ _ _ _ _ _ _ _ _ h (λ e. c.if-sign-eq-ARGUMENT.false (c.body_at-sign.ensures.0 ∙ e)) (sym c.body_at.ensures.0 ∙ (sym c.if-to_usize-body_at.false ∙ (c.to_usize.ensures.0 ∙ c.byte_at.ensures))) (sym c.body_at-sign.ensures.0 ∙ c.if-sign-ne-TOKEN.false) (sym c.body_at-2.ensures.0 ∙ (sym c.if-to_usize-body_at-2.false ∙ (c.to_usize-2.ensures.0 ∙ c.byte_at-2.ensures)))
+returns c = λ stop f ks js cs us b h. token_step _ _ _ _ _ _ _ _ _ _ _ _ _ _ _ _ _ h (λ e. c.if-sign-eq-ARGUMENT.false (c.body_at-sign.ensures.0 ∙ e)) (sym c.body_at.ensures.0 ∙ (sym c.if-from-body_at.false ∙ (c.from.ensures ∙ c.byte_at.ensures))) (sym c.body_at-sign.ensures.0 ∙ c.if-sign-ne-TOKEN.false) (sym c.body_at-2.ensures.0 ∙ (sym c.if-from-body_at-2.false ∙ (c.from-2.ensures ∙ c.byte_at-2.ensures)))

@@ -1,4 +1,4 @@
-use Prim.Native.Nat.{◌+◌, ◌-◌, ◌≤◌}
+use Prim.Native.Nat.{◌+◌}
 use mathlib.Core.Path.{◌≡◌}
 use lib.ListN.{length}
 use Rattle.format_language.specs.Language.{Language}
@@ -12,7 +12,4 @@ abbrev pub decreases-keep_ends : goal.decreases-keep_ends
 decreases-keep_ends l = l.levels
 
 abbrev pub invariant-loop-q : goal.invariant-loop-q
-invariant-loop-q here = (length here.memory ≡ length here.initial.memory) × (here.operands.first ≤ here.q) × ((l : Language) (ts : Codes) → Row here.places here.language here.tree here.operands.start here.operands.first here.operands.last l ts → Filling here.places here.language here.tree here.initial.memory here.memory (here.operands.start + length (write_all inTrees ts)) (levels_all ts) here.q here.operands.last here.to l)
-
-abbrev pub decreases-loop-q : goal.decreases-loop-q
-decreases-loop-q l = l.operands.last - l.q
+invariant-loop-q here = (length here.memory ≡ length here.initial.memory) × ((l : Language) (ts : Codes) → Row here.places here.language here.tree here.fn.operands.start here.fn.operands.first here.fn.operands.last l ts → Filling here.places here.language here.tree here.initial.memory here.memory (here.fn.operands.start + length (write_all inTrees ts)) (levels_all ts) here.q here.fn.operands.last here.to l)

@@ -1,4 +1,3 @@
-use Prim.Native.Nat.{◌-◌}
 use mathlib.Core.Path.{◌≡◌}
 use lib.ListN.{length}
 use Rattle.search_operation.proofs.Listing.{Listed}
@@ -6,6 +5,3 @@ use Rattle.search_operation.proofs.kinds.put_kinds.Given as goal
 
 abbrev pub invariant-loop-kind : goal.invariant-loop-kind
 invariant-loop-kind l = (length l.kinds ≡ length l.initial.kinds) × Listed l.table l.uses l.kinds l.kind
-
-abbrev pub decreases-loop-kind : goal.decreases-loop-kind
-decreases-loop-kind l = 32 - l.kind

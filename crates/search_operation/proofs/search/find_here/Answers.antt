@@ -3,6 +3,3 @@ use Rattle.search_operation.proofs.search.find_here.Goals as goal
 
 pub find_in-requires : goal.find_in-requires
 find_in-requires c = (c.requires.0, c.requires.1, zeros 73728, c.requires.2)
-
-pub returns : goal.returns
-returns c = c.find_in.ensures.1

@@ -1,4 +1,4 @@
-use Prim.Native.Nat.{ℕ, ◌-◌, ◌<◌, ◌≤◌}
+use Prim.Native.Nat.{ℕ, ◌<◌}
 use mathlib.Core.List.{List}
 use Rattle.format_language.specs.Language.{Language}
 use Rattle.tree_reader.specs.Code.{Codes}
@@ -7,7 +7,7 @@ use Rattle.tree_block.proofs.Steps.{Walking}
 use Rattle.tree_block.proofs.descent.argument_among.Given as goal
 
 abbrev pub invariant-loop-q : goal.invariant-loop-q
-invariant-loop-q here = (0 < here.left) × (here.first ≤ here.q) × ((x b : List ℕ) (l : Language) (ts : Codes) → AlongRow x here.language b here.index here.at here.entry here.first here.last l ts → Walking x here.language b here.index here.first here.last here.at here.number here.q here.to here.p here.left l ts)
-
-abbrev pub decreases-loop-q : goal.decreases-loop-q
-decreases-loop-q l = l.last - l.q
+invariant-loop-q c =
+    (0 < c.left)
+    × ((x b : List ℕ) (l : Language) (ts : Codes) → AlongRow x c.language b c.index c.fn.operands.start c.entry c.fn.operands.first c.fn.operands.last l ts
+    → Walking x c.language b c.index c.fn.operands.first c.fn.operands.last c.fn.operands.start c.number c.q c.start c.p c.left l ts)

@@ -1,26 +1,27 @@
-use mathlib.Core.Path.{refl}
-use native.Mathlib.Omega.{arith}
+use Rattle.std.proofs.Common.{rules, refl, ◌≡◌, Err}
 use Rattle.format_card.specs.Inner.Sets.{in_set}
-use Rattle.tree_edit.proofs.Planning.{path_nowhere, path_unseen, path_entry, path_reaches, path_given}
+use Rattle.tree_block.proofs.Answers.{entry_there}
+use Rattle.tree_edit.proofs.Planning.{path_refused, path_reaches, path_given}
 use Rattle.tree_edit.proofs.edit.edit_legal.Goals as goal
 
 pub descend-requires : goal.descend-requires
 descend-requires c = (c.requires.0, c.requires.1, c.requires.2.along)
 
-pub overflow_add-entry : goal.overflow_add-entry
-overflow_add-entry c = let y = (path_entry _ _ _ _ _ _ c.requires.0 c.requires.1 _ c.requires.2 _ (c.descend.ensures c.requires.0 c.requires.1 (in_set c.args.seen) c.requires.2.along (λ k q. refl)) _ _ _ c.in-To.is).1.inside in omega (arith, y)
+pub returns-in_err-at : goal.returns-in_err-at
+returns-in_err-at c = λ l t sees w y.
+    let e : c.from_residual.result ≡ Err c.in_err-at.field-0.0 = search rules in
+    rw e (path_refused w sees _ c.args.block.now c.args.plan.now c.args.plan_index.now (c.in_err-at.ensures l t sees w.along y))
 
-pub pair_in-requires : goal.pair_in-requires
-pair_in-requires c = let y = (path_entry _ _ _ _ _ _ c.requires.0 c.requires.1 _ c.requires.2 _ (c.descend.ensures c.requires.0 c.requires.1 (in_set c.args.seen) c.requires.2.along (λ k q. refl)) _ _ _ c.in-To.is).1.inside in omega (arith, y)
+pub spot_of-old-requires : goal.spot_of-old-requires
+spot_of-old-requires c = entry_there (c.in_ok-at.ensures c.requires.0 c.requires.1 (in_set c.args.seen) c.requires.2.along (λ k q. refl)).2
 
 pub replace_block-requires : goal.replace_block-requires
-replace_block-requires c = (_, _, c.requires.0, c.requires.1, _, path_reaches _ _ _ _ _ _ c.requires.0 c.requires.1 _ c.requires.2 _ (c.descend.ensures c.requires.0 c.requires.1 (in_set c.args.seen) c.requires.2.along (λ k q. refl)) _ _ _ c.in-To.is _ c.pair_in.ensures.0 _ refl)
+replace_block-requires c =
+    let v = c.in_ok-at.ensures c.requires.0 c.requires.1 (in_set c.args.seen) c.requires.2.along (λ k q. refl) in
+    (_, _, c.requires.0, c.requires.1, _, path_reaches c.requires.2 _ _ v.1 v.2 c.spot_of-old.ensures.0 c.spot_of-old.ensures.1 c.spot_of-old.ensures.2)
 
-pub returns-in-To : goal.returns-in-To
-returns-in-To c = λ l t sees w y. path_given _ _ _ _ _ _ l t sees w _ (c.descend.ensures l t sees w.along y) _ _ _ c.in-To.is c.args.block.now c.args.plan.now c.args.plan_index.now _ _ _ (c.replace_block.ensures _ _ l t _ (path_reaches _ _ _ _ _ _ l t sees w _ (c.descend.ensures l t sees w.along y) _ _ _ c.in-To.is _ c.pair_in.ensures.0 _ refl))
-
-pub returns-in-Nowhere : goal.returns-in-Nowhere
-returns-in-Nowhere c = λ l t sees w y. path_nowhere _ _ _ _ _ _ l t sees w _ (c.descend.ensures l t sees w.along y) _ _ _ c.in-Nowhere.is _ c.refuse_edit.ensures
-
-pub returns-in-Unseen : goal.returns-in-Unseen
-returns-in-Unseen c = λ l t sees w y. path_unseen _ _ _ _ _ _ l t sees w _ (c.descend.ensures l t sees w.along y) _ _ _ c.in-Unseen.is _ c.refuse_edit-in-Unseen.ensures
+pub returns : goal.returns
+returns c = λ l t sees w y.
+    let v = c.in_ok-at.ensures l t sees w.along y in
+    let o = path_reaches w sees _ v.1 v.2 c.spot_of-old.ensures.0 c.spot_of-old.ensures.1 c.spot_of-old.ensures.2 in
+    path_given w sees _ v.1 v.2 c.spot_of-old.ensures.0 c.spot_of-old.ensures.1 c.spot_of-old.ensures.2 c.args.block.now c.args.plan.now c.args.plan_index.now _ (c.replace_block.ensures _ _ l t _ o)

@@ -1,14 +1,10 @@
-use Prim.Native.Nat.{◌-◌}
-use mathlib.Core.Path.{◌≡◌}
-use mathlib.Core.List.{List}
-use lib.ListN.{length}
+use Rattle.std.proofs.Common.{List, length, ◌≡◌}
 use Rattle.tree_index.specs.Spans.{Span}
 use Rattle.tree_edit.specs.Inner.Moving.{Part}
 use Rattle.tree_edit.proofs.Entries.{Moving}
 use Rattle.tree_edit.proofs.moves.move_entries.Given as goal
 
-abbrev pub invariant-loop-p : goal.invariant-loop-p
-invariant-loop-p here = (length here.out ≡ length here.initial.out) × ((l : List Span) → Part here.index here.from here.stop l → Moving here.index here.initial.out here.out here.from here.stop here.start here.old here.new here.n here.p here.m l)
-
-abbrev pub decreases-loop-p : goal.decreases-loop-p
-decreases-loop-p l = l.stop - l.p
+abbrev pub invariant-loop-at : goal.invariant-loop-at
+invariant-loop-at c =
+    (length c.out ≡ length c.initial.out)
+    × ((l : List Span) → Part c.index c.from c.stop l → Moving c.index c.initial.out c.out c.from c.stop c.change.start c.change.old c.change.new c.n c.at l)

@@ -10,7 +10,10 @@ abbrev pub decreases-compare_row : goal.decreases-compare_row
 decreases-compare_row l = l.levels
 
 abbrev pub invariant-loop-q : goal.invariant-loop-q
-invariant-loop-q here = (here.m ≤ length here.index) × (here.initial.to ≤ here.to) × ((l : Language) (ts : Codes) → Row here.places here.language here.tree here.initial.to here.initial.q here.initial.end l ts → Comparing here.places here.language here.tree here.index here.n here.initial.to ts here.stop here.q here.end here.to here.m l)
+invariant-loop-q l =
+    (l.m ≤ length l.index)
+    × ((g : Language) (ts : Codes) → Row l.places l.language l.tree l.fn.operands.start l.fn.operands.first l.fn.operands.last g ts
+    → Comparing l.places l.language l.tree l.index l.n l.fn.operands.start ts l.stop l.q l.end l.to l.m g)
 
 abbrev pub decreases-loop-q : goal.decreases-loop-q
 decreases-loop-q l = length l.tree - l.to

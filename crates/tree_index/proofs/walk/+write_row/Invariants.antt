@@ -1,4 +1,3 @@
-use Prim.Native.Nat.{◌-◌, ◌≤◌}
 use mathlib.Core.Path.{◌≡◌}
 use lib.ListN.{length}
 use Rattle.format_language.specs.Language.{Language}
@@ -11,7 +10,7 @@ abbrev pub decreases-write_row : goal.decreases-write_row
 decreases-write_row l = l.levels
 
 abbrev pub invariant-loop-q : goal.invariant-loop-q
-invariant-loop-q here = (length here.out ≡ length here.initial.out) × (here.operands.start ≤ here.to) × ((l : Language) (ts : Codes) → Row here.places here.language here.tree here.operands.start here.operands.first here.operands.last l ts → Walking here.places here.language here.tree here.base here.initial.out here.out here.n here.operands.start ts here.q here.operands.last here.to here.m l)
-
-abbrev pub decreases-loop-q : goal.decreases-loop-q
-decreases-loop-q l = l.operands.last - l.q
+invariant-loop-q l =
+    (length l.out ≡ length l.initial.out)
+    × ((g : Language) (ts : Codes) → Row l.places l.language l.tree l.fn.operands.start l.fn.operands.first l.fn.operands.last g ts
+    → Walking l.places l.language l.tree l.base l.initial.out l.out l.n l.fn.operands.start ts l.q l.fn.operands.last l.to l.m g)

@@ -1,4 +1,4 @@
-use Prim.Native.Nat.{◌+◌, ◌-◌, ◌*◌, ◌≤◌}
+use Prim.Native.Nat.{◌+◌, ◌*◌, ◌≤◌}
 use mathlib.Core.Path.{◌≡◌}
 use lib.ListN.{length, drop}
 use lib.Seq.{slice}
@@ -16,6 +16,3 @@ decreases-walk_tree l = 2 * l.levels
 
 abbrev pub invariant-walk_row-loop-q : goal.invariant-walk_row-loop-q
 invariant-walk_row-loop-q here = (here.to ≤ length here.tree) × KindsIn here.language here.q here.last × ((l : Language) → Indexed here.index here.language l → stop_all (stop l here.levels) (slice here.q here.last here.language) (drop here.to here.tree) ≡ stop_all (stop l here.levels) (slice here.first here.last here.language) (drop here.at here.tree))
-
-abbrev pub decreases-walk_row-loop-q : goal.decreases-walk_row-loop-q
-decreases-walk_row-loop-q l = l.last - l.q

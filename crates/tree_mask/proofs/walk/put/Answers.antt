@@ -1,8 +1,8 @@
 use Rattle.tree_mask.proofs.Masks.{put_short, put_byte}
 use Rattle.tree_mask.proofs.walk.put.Goals as goal
 
-pub returns-then-out-n : goal.returns-then-out-n
-returns-then-out-n c = put_short _ _ _ c.if-out-n.true
+pub returns-then-n-out : goal.returns-then-n-out
+returns-then-n-out c = put_byte _ _ _ c.if-n-out.true
 
-pub returns : goal.returns
-returns c = put_byte _ _ _ c.if-out-n.false
+pub returns-else-n-out : goal.returns-else-n-out
+returns-else-n-out c = put_short _ _ _ c.if-n-out.false

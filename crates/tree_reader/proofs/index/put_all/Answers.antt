@@ -1,5 +1,4 @@
 use borrow.Author.Rules.{rules}
-use Prim.Native.Nat.{◌-◌}
 use mathlib.Core.Path.{refl}
 use Rattle.tree_reader.proofs.Lookup.{puts_done, puts_next}
 use Rattle.tree_reader.proofs.index.put_all.Goals as goal

@@ -1,5 +1,3 @@
-use Prim.Native.Nat.{◌-◌}
-use mathlib.Core.Bool.{true}
 use mathlib.Core.Path.{refl, ◌∙◌}
 use Rattle.tree_reader.proofs.Members.{in_done, in_fits, in_stop, in_next, in_is, entries_whole}
 use Rattle.tree_reader.proofs.kinds.is_in.Goals as goal

@@ -8,4 +8,4 @@ pub returns-then-s-p-eq-CLASS : goal.returns-then-s-p-eq-CLASS
 returns-then-s-p-eq-CLASS c = mentions_class _ _ _ c.if-s-p.false c.if-s-p-eq-CLASS.true
 
 pub returns : goal.returns
-returns c = mentions_production _ _ _ c.if-s-p.false c.if-s-p-eq-CLASS.false c.requires.1 c.kind_among.ensures
+returns c = mentions_production _ _ _ c.if-s-p.false c.if-s-p-eq-CLASS.false c.requires.1 c.requires.0 c.requires.2 c.contains.ensures.value

@@ -6,7 +6,7 @@ pub returns-then-bytes-at : goal.returns-then-bytes-at
 returns-then-bytes-at c = (argument_end _ _ _ _ c.if-bytes-at.true, tt)
 
 pub returns-then-argument_is : goal.returns-then-argument_is
-returns-then-argument_is c = (argument_good _ _ _ _ c.if-bytes-at.false c.to_usize.ensures.0 c.argument_is.ensures c.if-argument_is.true, omega arith)
+returns-then-argument_is c = (argument_good _ _ _ _ c.if-bytes-at.false c.from.ensures c.argument_is.ensures c.if-argument_is.true, omega arith)
 
 pub returns : goal.returns
-returns c = (argument_bad _ _ _ _ c.if-bytes-at.false c.to_usize.ensures.0 c.argument_is.ensures c.if-argument_is.false, tt)
+returns c = (argument_bad _ _ _ _ c.if-bytes-at.false c.from.ensures c.argument_is.ensures c.if-argument_is.false, tt)

@@ -8,7 +8,7 @@ pub returns-then-uses-i : goal.returns-then-uses-i
 returns-then-uses-i c = is_past _ _ _ _ c.if-i-eq0.false c.if-uses-i.true
 
 pub returns-then-uses-place : goal.returns-then-uses-place
-returns-then-uses-place c = is_outside _ _ _ _ c.if-i-eq0.false c.if-uses-i.false c.to_usize.ensures.0 c.if-uses-place.true
+returns-then-uses-place c = is_outside _ _ _ _ c.if-i-eq0.false c.if-uses-i.false c.from.ensures c.if-uses-place.true
 
 pub returns : goal.returns
-returns c = is_kind _ _ _ _ c.if-i-eq0.false c.if-uses-i.false c.to_usize.ensures.0 c.to_usize-2.ensures.0 c.to_usize-3.ensures.0
+returns c = is_kind _ _ _ _ c.if-i-eq0.false c.if-uses-i.false c.from.ensures c.from-2.ensures c.from-3.ensures

@@ -5,4 +5,4 @@ pub returns-then-bytes-at : goal.returns-then-bytes-at
 returns-then-bytes-at c = place_end _ _ _ _ c.if-bytes-at.true
 
 pub returns : goal.returns
-returns c = place_name _ _ _ _ c.if-bytes-at.false c.to_usize.ensures.0 c.to_usize-2.ensures.0 (at_key c.args.index.now c.place_at.ensures c.production_key.ensures.0)
+returns c = place_name _ _ _ _ c.if-bytes-at.false c.from.ensures c.from-2.ensures (at_key c.args.index.now c.place_at.ensures c.production_key.ensures.0)

@@ -9,7 +9,7 @@ pub returns-then-bytes-at-eq0 : goal.returns-then-bytes-at-eq0
 returns-then-bytes-at-eq0 c = (numbered_zero _ _ _ _ c.if-bytes-at-lt2.false c.if-bytes-at-eq0.true, tt)
 
 pub returns-then-argument_is : goal.returns-then-argument_is
-returns-then-argument_is c = (numbered_good _ _ _ _ c.if-bytes-at-lt2.false c.to_usize.ensures.0 c.to_usize-2.ensures.0 c.if-bytes-at-eq0.false c.argument_is.ensures c.if-argument_is.true, omega arith)
+returns-then-argument_is c = (numbered_good _ _ _ _ c.if-bytes-at-lt2.false c.from.ensures c.from-2.ensures c.if-bytes-at-eq0.false c.argument_is.ensures c.if-argument_is.true, omega arith)
 
 pub returns : goal.returns
-returns c = (numbered_bad _ _ _ _ c.if-bytes-at-lt2.false c.to_usize.ensures.0 c.to_usize-2.ensures.0 c.if-bytes-at-eq0.false c.argument_is.ensures c.if-argument_is.false, tt)
+returns c = (numbered_bad _ _ _ _ c.if-bytes-at-lt2.false c.from.ensures c.from-2.ensures c.if-bytes-at-eq0.false c.argument_is.ensures c.if-argument_is.false, tt)

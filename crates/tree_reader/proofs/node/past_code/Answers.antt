@@ -9,7 +9,7 @@ pub returns-then-bytes-at-ne-TOKEN : goal.returns-then-bytes-at-ne-TOKEN
 returns-then-bytes-at-ne-TOKEN c = (past_other _ _ _ _ _ c.if-bytes-at.false c.if-bytes-at-ne-TOKEN.true, tt)
 
 pub token-requires : goal.token-requires
-token-requires c = (omega arith, class_in _ _ c.requires.sound c.to_usize.ensures.0 c.requires.kind c.place_at.ensures)
+token-requires c = (omega arith, class_in _ _ c.requires.sound c.from.ensures c.requires.kind c.place_at.ensures)
 
 pub returns : goal.returns
-returns c = (past_sign _ _ _ _ _ c.if-bytes-at.false c.if-bytes-at-ne-TOKEN.false c.to_usize.ensures.0 c.place_at.ensures c.token.ensures.0, c.token.ensures.1)
+returns c = (past_sign _ _ _ _ _ c.if-bytes-at.false c.if-bytes-at-ne-TOKEN.false c.from.ensures c.place_at.ensures c.token.ensures.0, c.token.ensures.1)

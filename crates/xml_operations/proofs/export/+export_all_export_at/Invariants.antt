@@ -1,7 +1,4 @@
-use Prim.Native.Nat.{◌+◌, ◌-◌, ◌*◌, ◌≤◌}
-use mathlib.Core.Path.{◌≡◌}
-use lib.ListN.{length}
-use Rattle.tree_reader.specs.Inner.Positions.{KindsIn}
+use Rattle.std.proofs.Common.{◌+◌, ◌*◌, ◌≤◌, length}
 use Rattle.xml_operations.proofs.Exports.{Goes}
 use Rattle.xml_operations.proofs.export.+export_all_export_at.Given as goal
 
@@ -11,8 +8,8 @@ decreases-export_all l = 2 * l.levels + 1
 abbrev pub decreases-export_at : goal.decreases-export_at
 decreases-export_at l = 2 * l.levels
 
-abbrev pub invariant-export_all-loop-q : goal.invariant-export_all-loop-q
-invariant-export_all-loop-q l = (l.to ≤ length l.tree) × (length l.out ≡ length l.initial.out) × KindsIn l.kinds l.q l.stop × Goes l.kinds l.language l.index l.from l.stop l.tree l.at l.levels l.initial.out l.n l.out l.q l.to l.m
-
-abbrev pub decreases-export_all-loop-q : goal.decreases-export_all-loop-q
-decreases-export_all-loop-q l = l.stop - l.q
+abbrev pub invariant-export_all-loop-kind : goal.invariant-export_all-loop-kind
+invariant-export_all-loop-kind l = record {
+  inside : l.ends.tree ≤ length l.tree;
+  goes : Goes l.kinds l.language l.index l.tree l.initial.ends.tree l.levels l.initial.out l.initial.ends.text l.out l.kind-index l.ends.tree l.ends.text;
+}

@@ -1,11 +1,16 @@
-use Rattle.xml_operations.proofs.Measures.{token_short, token_out, token_end}
+use Rattle.std.proofs.Common.{rules, ◌≡◌, Err, arith}
+use Rattle.xml_operations.proofs.Measures.{sum_top, token_err, token_there, token_end}
 use Rattle.xml_operations.proofs.measure.measure_token.Goals as goal
 
-pub returns-then-tree-at-lt2 : goal.returns-then-tree-at-lt2
-returns-then-tree-at-lt2 c = token_short _ _ _ _ _ c.if-tree-at-lt2.true
+pub returns-in_err-end : goal.returns-in_err-end
+returns-in_err-end c =
+    let r : c.from_residual.result ≡ Err c.in_err-end.field-0.0 = search rules in
+    rw r (token_err _ _ _ _ _ _ (λ z. omega arith) c.token.ensures.0 c.in_err-end.was)
 
-pub returns-then-not-in_range : goal.returns-then-not-in_range
-returns-then-not-in_range c = token_out _ _ _ _ _ c.if-tree-at-lt2.false c.pair_in-value.ensures.0 c.in_range.ensures (c.if-not-in_range.true)
+pub pair_in-requires : goal.pair_in-requires
+pair_in-requires c = omega (arith, token_there c.args.kind _ _ _ _ c.args.n (λ z. omega arith) c.token.ensures.0 c.in_ok-end.was)
 
 pub returns : goal.returns
-returns c = token_end _ _ _ _ _ c.if-tree-at-lt2.false c.pair_in-value.ensures.0 c.in_range.ensures (c.if-not-in_range.false) c.to_usize.ensures.0 c.width.ensures.0 c.width-2.ensures.0 c.plus.ensures
+returns c =
+    token_end _ _ _ _ _ _ (λ z. omega arith) c.token.ensures.0 c.in_ok-end.was c.from.ensures c.width.ensures.0 c.pair_in.ensures.0 c.width-2.ensures.0
+    (sum_top c.saturating_add.ensures)

@@ -1,22 +1,31 @@
-use mathlib.Core.Path.{◌≡◌}
-use native.Mathlib.Omega.{arith}
-use Rattle.xml_operations.proofs.Answers.{tree_left, tree_long, tree_asks, tree_done, tree_deep, tree_broken}
+use Rattle.std.proofs.Common.{rules, ◌≡◌, Err, refl, arith}
+use Rattle.tree_reader.specs.Inner.Positions.{refusal_of}
+use Rattle.xml_operations.proofs.Answers.{tree_err, tree_left, tree_long, tree_asks, tree_done}
 use Rattle.xml_operations.proofs.operations.export_tree.Goals as goal
 
-pub returns-then-e-tree : goal.returns-then-e-tree
-returns-then-e-tree c = tree_left _ _ _ _ _ c.measure_all.ensures.1 c.in-End.is c.measure_all.ensures.0 c.if-e-tree.true c.refuse.ensures
+pub returns-in_err-ends : goal.returns-in_err-ends
+returns-in_err-ends c =
+    let r : c.from_residual.result ≡ Err (refusal_of c.in_err-ends.field-0.0) = search rules in
+    tree_err _ _ _ _ _ c.measure_all.ensures.1 _ c.in_err-ends.was r
 
-pub returns-then-output-length : goal.returns-then-output-length
-returns-then-output-length c = tree_long _ _ _ _ _ c.measure_all.ensures.1 c.in-End.is c.measure_all.ensures.0 c.if-e-tree.false (omega arith) c.if-output-length.true c.refuse-then-output-length.ensures
+pub returns-then-ends-tree : goal.returns-then-ends-tree
+returns-then-ends-tree c = tree_left _ _ _ _ _ c.measure_all.ensures.1 c.in_ok-ends.was c.measure_all.ensures.0 c.if-ends-tree.true refl
+
+pub returns-then-output-ends : goal.returns-then-output-ends
+returns-then-output-ends c = tree_long _ _ _ _ _ c.measure_all.ensures.1 c.in_ok-ends.was c.measure_all.ensures.0 c.if-ends-tree.false (omega arith) c.if-output-ends.true refl
 
 pub export_all-requires : goal.export_all-requires
-export_all-requires c = (c.requires.0.sound, (λ x i j. let z : x ≡ 0 = omega arith in rw z (omega arith, c.requires.0.kind)), omega arith, (c.requires.1.0, _, _, tree_asks c.args.language.now c.args.index.now c.args.kind c.args.tree.now c.args.output.now c.measure_all.ensures.1 c.in-End.is c.measure_all.ensures.0 c.if-e-tree.false (omega (arith, c.well_formed.1.1.1.1.0.1)) c.if-output-length.false c.requires.1.0 c.requires.1.1))
+export_all-requires c = (
+  c.requires.0.sound,
+  λ i d h. let z : i ≡ 0 = omega arith in rw z c.requires.0.kind,
+  omega arith,
+  (
+    c.requires.1.0,
+    _,
+    _,
+    tree_asks _ _ _ _ _ c.measure_all.ensures.1 c.in_ok-ends.was c.measure_all.ensures.0 c.if-ends-tree.false (omega arith) c.if-output-ends.false _ c.requires.1.1,
+  ),
+)
 
-pub returns-else-output-length : goal.returns-else-output-length
-returns-else-output-length c = tree_done c.args.language.now c.args.index.now c.args.kind c.args.tree.now c.args.output.now c.measure_all.ensures.1 c.in-End.is c.measure_all.ensures.0 c.if-e-tree.false (omega (arith, c.well_formed.1.1.1.1.0.1)) c.if-output-length.false c.export_all.ensures c.accept.ensures
-
-pub returns-in-Deep : goal.returns-in-Deep
-returns-in-Deep c = tree_deep _ _ _ _ _ c.measure_all.ensures.1 c.in-Deep.is c.refuse-in-Deep.ensures
-
-pub returns-in-Broken : goal.returns-in-Broken
-returns-in-Broken c = tree_broken _ _ _ _ _ c.measure_all.ensures.1 c.in-Broken.is c.refuse-in-Broken.ensures
+pub returns : goal.returns
+returns c = tree_done _ _ _ _ _ c.measure_all.ensures.1 c.in_ok-ends.was c.measure_all.ensures.0 c.if-ends-tree.false (omega arith) c.if-output-ends.false c.export_all.ensures refl

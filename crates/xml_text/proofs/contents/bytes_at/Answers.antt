@@ -1,17 +1,20 @@
+use Rattle.std.proofs.Common.{arith}
 use Rattle.xml_text.proofs.Takes.{holds_none, holds_end, holds_name, holds_value, holds_other}
 use Rattle.xml_text.proofs.contents.bytes_at.Goals as goal
+use Rattle.xml_text.proofs.contents.bytes_at.Goals.{then-text-at-ne-OPEN-via-then-text-at-ne-OPEN as none, then-text-at-ne-OPEN-via-else-text-at-ne-OPEN+then-text-at-lt2 as last}
 
 pub returns-then-text-at-ne-OPEN : goal.returns-then-text-at-ne-OPEN
-returns-then-text-at-ne-OPEN c = holds_none _ _ c.requires c.if-text-at-ne-OPEN.true
+returns-then-text-at-ne-OPEN c =
+    elim c.then-text-at-ne-OPEN.branch [
+      | none w ↦ holds_none _ _ c.requires w.if-text-at-ne-OPEN.true
+      | last w ↦ holds_end _ _ c.requires w.if-text-at-ne-OPEN.false w.if-text-at-lt2.true
+    ]
 
-pub returns-then-text-at-lt2 : goal.returns-then-text-at-lt2
-returns-then-text-at-lt2 c = holds_end _ _ c.requires c.if-text-at-ne-OPEN.false c.if-text-at-lt2.true
+pub returns-in-120 : goal.returns-in-120
+returns-in-120 c = holds_name _ _ c.requires c.if-text-at-ne-OPEN.false c.in-120.is
 
-pub returns-then-text-at-eq-NODE : goal.returns-then-text-at-eq-NODE
-returns-then-text-at-eq-NODE c = holds_name _ _ c.requires c.if-text-at-ne-OPEN.false c.if-text-at-eq-NODE.true
+pub returns-in-116 : goal.returns-in-116
+returns-in-116 c = holds_value _ _ c.requires c.if-text-at-ne-OPEN.false c.in-116.is
 
-pub returns-then-text-at-eq-TOKEN : goal.returns-then-text-at-eq-TOKEN
-returns-then-text-at-eq-TOKEN c = holds_value _ _ c.requires c.if-text-at-ne-OPEN.false c.if-text-at-eq-TOKEN.true
-
-pub returns : goal.returns
-returns c = holds_other _ _ c.requires c.if-text-at-ne-OPEN.false c.if-text-at-eq-NODE.false c.if-text-at-eq-TOKEN.false
+pub returns-in_default : goal.returns-in_default
+returns-in_default c = holds_other _ _ c.requires c.if-text-at-ne-OPEN.false (λ e. omega arith) (λ e. omega arith)

@@ -1,14 +1,13 @@
-use Rattle.xml_text.proofs.Scans.{tells_short, tells_other, tells_none, tells_some}
+use Rattle.std.proofs.Common.{arith}
+use Rattle.std.proofs.lemmas.List.{get_or_past}
+use Rattle.xml_text.proofs.Scans.{tells_other}
 use Rattle.xml_text.proofs.scan.is_token.Goals as goal
+use Rattle.xml_text.proofs.scan.is_token.Goals.{then-at-text, else-at-text}
 
-pub returns-then-text-at-lt-SHORTEST : goal.returns-then-text-at-lt-SHORTEST
-returns-then-text-at-lt-SHORTEST c = tells_short _ _ _ c.if-text-at-lt-SHORTEST.true
-
-pub returns-then-text-at-ne-TOKEN : goal.returns-then-text-at-ne-TOKEN
-returns-then-text-at-ne-TOKEN c = tells_other _ _ _ c.if-text-at-lt-SHORTEST.false c.if-text-at-ne-TOKEN.true
-
-pub returns-then-class-eq0 : goal.returns-then-class-eq0
-returns-then-class-eq0 c = tells_none _ _ _ c.if-class-eq0.true
-
-pub returns : goal.returns
-returns c = tells_some _ _ _ c.if-class-eq0.false
+pub returns-else-text-at-eq-TOKEN : goal.returns-else-text-at-eq-TOKEN
+returns-else-text-at-eq-TOKEN c =
+    rw c.if-text-at-eq-TOKEN.false
+    (tells_other _ _ _ (elim c.if-at-text.branch [
+      | then-at-text w ↦ grind arith
+      | else-at-text w ↦ grind (arith, get_or_past)
+    ]))

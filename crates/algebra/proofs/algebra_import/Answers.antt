@@ -1,6 +1,0 @@
-use mathlib.Core.Path.{ap, ◌∙◌}
-use Rattle.outcome.specs.Outcome.{number_of, length_of}
-use Rattle.algebra.proofs.algebra_import.Goals as goal
-
-pub returns : goal.returns
-returns c = (c.hand_over.ensures.0 ∙ ap number_of c.import-answer.ensures.0, c.hand_over.ensures.1 ∙ ap length_of c.import-answer.ensures.0, c.import-answer.ensures.1)

@@ -1,6 +1,0 @@
-use mathlib.Core.Path.{ap, ◌∙◌}
-use Rattle.outcome.specs.Outcome.{number_of}
-use Rattle.algebra.proofs.algebra_locate.Goals as goal
-
-pub returns : goal.returns
-returns c = (c.number.ensures ∙ ap number_of c.locate-located.ensures.0, c.locate-located.ensures.1)

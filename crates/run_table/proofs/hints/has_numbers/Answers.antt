@@ -1,8 +1,0 @@
-use Prim.Native.Nat.{◌-◌}
-use Rattle.run_table.proofs.hints.has_numbers.Goals as goal
-
-pub loop-p-init : goal.loop-p-init
-loop-p-init c = tt
-
-pub loop-p-preserved : goal.loop-p-preserved
-loop-p-preserved c = tt

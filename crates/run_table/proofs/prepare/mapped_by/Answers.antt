@@ -1,8 +1,0 @@
-use Rattle.run_table.proofs.Tables.{mapped_there, mapped_none}
-use Rattle.run_table.proofs.prepare.mapped_by.Goals as goal
-
-pub returns-then-next-eq0 : goal.returns-then-next-eq0
-returns-then-next-eq0 c = mapped_none _ _ _ _ _ _ c.to_usize.ensures.0 c.to_usize-2.ensures.0 c.byte_at-next.ensures c.if-next-eq0.true
-
-pub returns : goal.returns
-returns c = mapped_there _ _ _ _ _ _ c.to_usize.ensures.0 c.to_usize-2.ensures.0 c.byte_at-next.ensures

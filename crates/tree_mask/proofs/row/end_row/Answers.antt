@@ -1,7 +1,0 @@
-use Rattle.tree_mask.specs.Inner.Rows.{end_row}
-use mathlib.Core.Path.{refl}
-use Rattle.tree_mask.proofs.row.end_row.Goals as goal
-
-pub returns : goal.returns
-unfolding end_row
-returns c = refl
