@@ -5,10 +5,10 @@ use mathlib.Core.Path.{◌≡◌, refl, sym, ap, ◌∙◌}
 use mathlib.Core.Bool.{Bool, true, false, cond}
 use mathlib.Core.List.{List, [], ◌∷◌, ◌++◌, append_assoc}
 use native.Mathlib.Nat.{add_assoc, add-zero}
+use native.Mathlib.Numerals.{add-one}
 use native.Mathlib.Omega.{arith}
-use lib.ListN.{length, take, drop, set, length-append, length-drop, take-append-drop}
-use lib.Seq.{slice, take_at, take-add, drop-append-add, drop-drop, length-take-le, length-slice, sets, sets-eq}
-use borrow.Rule.Slice.PartMut.{put_mid}
+use lib.ListN.{length, take, drop, set, get_or, length-append, length-drop, take-append-drop}
+use lib.Seq.{slice, take_at, take-add, drop-append-add, drop-drop, length-take-le, length-slice, paste, paste-suc, get_or-drop, sets, sets-eq}
 use Rattle.format_fields.proofs.Lists.{part_is}
 use Rattle.format_fields.specs.Fields.{two_bytes}
 use Rattle.format_fields.specs.Inner.Writing.{spliced, Written, Stores}
@@ -95,18 +95,23 @@ written_then v u o o' o'' n m k w x e = record {
 
 -- `put`
 module _ (s : List ℕ) (p e : ℕ) (o : List ℕ) (n : ℕ) (rise : p ≤ e) (inside : e ≤ length s) where
+  pub put_more : (i : ℕ) → n + i < length o → p + i < length s
+      → set (paste o n (drop p s) i) (n + i) (get_or s (p + i) 0) ≡ paste o n (drop p s) (i + 1)
+  put_more i a b =
+      let l : i < length (drop p s) = simp length-drop (omega arith) in
+      rw (← get_or-drop p s i 0, add-one i) (paste-suc o n (drop p s) i 0 a l)
+
   long : length (slice p e s) ≡ e - p
   long = length-slice p e s inside
 
   pub put_full : length o < n + (e - p) → Stores (slice p e s) o o n None
   put_full h = stored_full (slice p e s) o o n (omega (arith, long))
 
-  pub put_done : (v o' : List ℕ) → n + (e - p) ≤ length o → v ≡ take (e - p) (drop p s) → o' ≡ put_mid n (n + (e - p) - n) o v
+  pub put_done : (o' : List ℕ) → n + (e - p) ≤ length o → o' ≡ paste o n (drop p s) (e - p)
       → Stores (slice p e s) o o' n (Some (n + (e - p)))
-  put_done v o' h q b =
-      let k : n + (n + (e - p) - n) ≡ n + length (slice p e s) = omega (arith, long) in
+  put_done o' h q =
       stored_to (slice p e s) o o' n (n + (e - p)) (omega (arith, long)) h
-      (b ∙ (ap (λ (w : List ℕ). put_mid n (n + (e - p) - n) o w) (q ∙ sym (slice_is s p e rise inside)) ∙ rw (opened o n (slice p e s), drop-drop (n + (e - p) - n) n o) (ap (λ (j : ℕ). take n o ++ (slice p e s ++ drop j o)) k)))
+      (q ∙ rw (opened o n (slice p e s), long, slice_is s p e rise inside) (append_assoc (take n o) (take (e - p) (drop p s)) (drop (n + (e - p)) o)))
 
 -- `put_if`
 module _ (wanted : Bool) (v o : List ℕ) (n : ℕ) where

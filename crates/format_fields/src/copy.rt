@@ -5,6 +5,7 @@ ghost use Rattle.format_fields.specs.Fields.{two_bytes};
 ghost use Rattle.format_fields.specs.Inner.Writing.{Inside, spliced, Stores};
 
 // Copies the bytes of s from p up to e into the output, from n on, and says where they end; nothing where the output is too short.
+// The compiler makes a memcpy of the loop; of the kit's copy_from_slice it makes a memmove, which the library does not call.
 pub fn put(s: &[u8], p: usize, e: usize, out: &mut [u8], n: usize) -> Option<usize>
     requires { Inside s.now p e × (n ≤ length out.old) }
     ensures { Stores (slice p e s.now) out.old out.new n result }
@@ -13,7 +14,9 @@ pub fn put(s: &[u8], p: usize, e: usize, out: &mut [u8], n: usize) -> Option<usi
     if out.len() < m {
         return None;
     }
-    out[n..m].copy_from_slice(&s[p..e]);
+    for i in 0..e - p {
+        out[n + i] = s[p + i];
+    }
     Some(m)
 }
 

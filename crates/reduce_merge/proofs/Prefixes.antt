@@ -1,16 +1,13 @@
 -- The fields that two files begin with alike: a law for each return and turn of the functions of `prefix`, and what the
 -- operators make of such fields.
-use Prim.Native.Nat.{ℕ, suc, ◌+◌, ◌-◌, ◌<◌, ◌≤◌}
+use Prim.Native.Nat.{ℕ, suc, ◌+◌, ◌<◌, ◌≤◌}
 use mathlib.Core.Path.{◌≡◌, refl, sym, ap, ◌∙◌}
 use mathlib.Core.Bool.{Bool, true, false}
 use mathlib.Core.List.{List, [], ◌∷◌, ◌++◌, append_assoc, append-nil}
 use native.Mathlib.Omega.{arith}
 use lib.ListN.{length, take, drop, get_or}
-use lib.Seq.{slice, slice_empty, take_all, take-take, take-add, get_or-take}
+use lib.Seq.{slice, slice_empty, take_all, take-take, get_or-take}
 use lib.Dec.{ltb}
-use lib.Pointwise.{pointwise}
-use Rattle.std.proofs.Common.{nat_eq}
-use Rattle.std.specs.Cmp.Lexicographic.{same_text}
 use borrow.Author.Tests.{eq-eqb, ltb-false}
 use Rattle.format_fields.specs.Lists.{all}
 use Rattle.format_fields.specs.Keyed.{agree, union, within, without}
@@ -28,13 +25,6 @@ use Rattle.reduce_merge.proofs.Writing.{writing_start}
 use Rattle.reduce_merge.proofs.Turns.{Rest, Going, Merging, bytes_append, bytes_cons, bytes_none, all_bytes}
 use Rattle.reduce_merge.proofs.Containing.{Containing}
 use Rattle.reduce_merge.proofs.Agreeing.{Agreeing, agree_pass, agree_drop}
-
--- `alike_on`: k more bytes are the same.
-pub alike_more : (a b : List ℕ) (n k : ℕ) → Alike a b n → n + k ≤ length a → n + k ≤ length b
-    → true ≡ pointwise nat_eq (take (n + k - n) (drop n a)) (take (n + k - n) (drop n b)) → Alike a b (n + k)
-alike_more a b n k h u v e =
-    let d : n + k - n ≡ k = omega arith in
-    record { left = u; right = v; same = rw (take-add n k a, take-add n k b, h.same, rw d at (same_text (take (n + k - n) (drop n a)) (take (n + k - n) (drop n b)) e)) }
 
 -- What lies in the first n bytes is the same.
 module _ (a b : List ℕ) (n : ℕ) (h : Alike a b n) where

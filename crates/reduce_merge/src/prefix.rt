@@ -4,12 +4,20 @@ ghost use Rattle.reduce_merge.specs.Inner.Parts.{Alike, Shared, WholeFrom};
 
 use format_fields::walk::whole_end;
 
-// Sixteen more bytes from n on are the same in both.
+// Sixteen more bytes from n on are the same in both. All are compared, without a way out, so that it is one step: a comparison of
+// slices would be a call, which loses that there are 16.
 fn alike_on(a: &[u8], b: &[u8], n: usize) -> bool
     requires { Alike a.now b.now n }
     ensures { result ≡ true → Alike a.now b.now (n + 16) }
 {
-    a.len() - n >= 16 && b.len() - n >= 16 && a[n..n + 16] == b[n..n + 16]
+    if a.len() - n < 16 || b.len() - n < 16 {
+        return false;
+    }
+    let mut same = true;
+    for i in n..n + 16 {
+        same &= a[i] == b[i];
+    }
+    same
 }
 
 // A number of first bytes that are the same in both, by sixteens.

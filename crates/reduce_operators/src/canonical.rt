@@ -28,7 +28,7 @@ fn spare_step(a: &[u8], p: usize) -> bool
 }
 
 // The entry at p, which ends at e, as a value writes it.
-fn put_entry(a: &[u8], p: usize, e: usize, out: &mut [u8], n: usize) -> Option<usize>
+pub fn put_entry(a: &[u8], p: usize, e: usize, out: &mut [u8], n: usize) -> Option<usize>
     requires { EntryAsks a.now p e out.old n }
     ensures { Stores (entry_bytes a.now p) out.old out.new n result }
 {

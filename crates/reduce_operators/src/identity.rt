@@ -57,7 +57,7 @@ fn put_kinds(a: &[u8], out: &mut [u8]) -> Option<usize>
 }
 
 // The clause of the production at p, which ends at e: its name, and its arguments in their order.
-fn put_clause(a: &[u8], p: usize, e: usize, out: &mut [u8], n: usize) -> Option<usize>
+pub fn put_clause(a: &[u8], p: usize, e: usize, out: &mut [u8], n: usize) -> Option<usize>
     requires { EntryAsks a.now p e out.old n }
     ensures { Stores (clause_item a.now p) out.old out.new n result }
 {

@@ -18,7 +18,7 @@ pub enum Form {
 }
 
 // The form of a language term: the left column.
-fn language_form(sign: u8) -> Form
+pub fn language_form(sign: u8) -> Form
     ensures { Begins languages sign result }
 {
     match sign {
@@ -35,7 +35,7 @@ fn language_form(sign: u8) -> Form
 }
 
 // The form of a translation term: the right column.
-fn translation_form(sign: u8) -> Form
+pub fn translation_form(sign: u8) -> Form
     ensures { Begins translations sign result }
 {
     match sign {

@@ -63,16 +63,15 @@ module _ (s index : List ℕ) (v : Weighing) (b : List ℕ) (top : ℕ) (w : Wei
   abbrev pub Goes : Step → Type 0
   Goes x = (n : ℕ) → goes_on s index v b top n w x ≡ down_at s index v b top (suc n) w k at sum cost
 
-  goes_leaf : (r : Read) (n : ℕ) → goes_on s index v b top n w (leaf_step top (sum_of top w) sum cost r) ≡ leaf_down top w sum cost r
+  goes_token : (class n : ℕ) → goes_on s index v b top n w (leaf_step top (sum_of top w) sum cost (token_at s class b at)) ≡ leaf_down top w sum cost (token_at s class b at)
   unfolding down_from
-  goes_leaf (Ok e) n = refl
-  goes_leaf (Err e) n = refl
+  goes_token class n = token_past s class b at (λ (u : Read). goes_on s index v b top n w (leaf_step top (sum_of top w) sum cost u) ≡ leaf_down top w sum cost u) refl refl
 
   -- A token: what it adds.
   pub token_goes : (class : ℕ) {total : ℕ} → total ≡ sum_of top w → {r : Read} → r ≡ token_at s class b at → {x : Step} → x ≡ leaf_step top total sum cost r
       → Leaf (token_at s class b at) ≡ node_at Tree s index [] k b at → Goes x
   unfolding down_at
-  token_goes class et {r} er ex h n = rw (ex, et, ← h, ← er) (goes_leaf r n)
+  token_goes class et er ex h n = rw (ex, et, ← h, er) (goes_token class n)
 
   -- A production's name.
   pub name_goes : (place : ℕ) {first last o total u : ℕ} → Operands first last (at + 1) ≡ node_at Tree s index [] k b at → first ≡ place + 4

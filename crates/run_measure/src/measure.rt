@@ -32,14 +32,14 @@ pub type Measured = Result<Figures, ReadError>;
 // What stands where a tree begins: a row of operands, whose kinds stand in the source from `first` up to `last`, and what is
 // measured so far, up to where they begin. A token's row is empty.
 #[derive(Clone, Copy, Debug, PartialEq, Eq)]
-struct Row {
-    first: usize,
-    last: usize,
-    done: Figures,
+pub struct Row {
+    pub first: usize,
+    pub last: usize,
+    pub done: Figures,
 }
 
 // Whether a tree of the kind is one level too many: no level is left, and the kind is no class.
-fn out_of_levels(index: &[u16; TABLE], kind: u8, left: usize) -> bool
+pub fn out_of_levels(index: &[u16; TABLE], kind: u8, left: usize) -> bool
     requires { kind < 32 }
     ensures { result ≡ out_of_levels index.now kind left }
 {
@@ -47,15 +47,18 @@ fn out_of_levels(index: &[u16; TABLE], kind: u8, left: usize) -> bool
 }
 
 // A leaf of a tree is a token, which a run keeps: two bytes.
-fn leaf(read: Read, total: usize, done: Figures, top: usize) -> Result<Row, ReadError>
+pub fn leaf(read: Read, total: usize, done: Figures, top: usize) -> Result<Row, ReadError>
     requires { done.length ≤ top }
     ensures { result ≡ leaf_step top total done.length done.cost read }
 {
+    let Ok(end) = read else {
+        return Err(ReadError::Broken);
+    };
     Ok(Row {
         first: 0,
         last: 0,
         done: Figures {
-            end: read?,
+            end,
             length: add_share(done.length, total, 2, top),
             cost: done.cost,
         },

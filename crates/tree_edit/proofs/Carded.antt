@@ -24,8 +24,8 @@ use Rattle.tree_index.proofs.Starts.{own_entered}
 use Rattle.tree_index.proofs.Checking.{tree_bytes}
 use Rattle.tree_index.proofs.Owning.{Owned, accepted_own, owned_small, owned_there}
 use Rattle.format_card.specs.Card.{Card, sees, card_of}
-use Rattle.format_card.specs.Inner.Sets.{Holds, Reads, lowest_of}
-use Rattle.format_card.proofs.Refusals.{same_refusal, lowest_accepted, together_refused}
+use Rattle.format_card.specs.Inner.Sets.{Holds, Reads, with_card}
+use Rattle.format_card.proofs.Refusals.{same_refusal, with_card_accepted, together_with_card}
 use Rattle.format_card.proofs.Trees.{tree_high}
 use Rattle.tree_block.specs.Blocks.{block_of, block_at}
 use Rattle.tree_block.specs.Operations.{found}
@@ -55,11 +55,11 @@ own_high l k b i p e = go (tree_of l k b) (tree_high l k b p) e
     go (refused r) g h = g h
 
 module _ (s : List ℕ) (root : ℕ) (c b i : List ℕ) {own seen low : Outcome}
-    (eo : own ≡ check_indexed s root b i) (ec : Reads (card_of c) seen) (el : low ≡ lowest_of own seen) where
+    (eo : own ≡ check_indexed s root b i) (ec : Reads (card_of c) seen) (el : low ≡ with_card own seen) where
   plan_refused : (path block : List ℕ) {y : Reason} → low ≡ Err y → edit_plan s root b i path c block ≡ refused y
   unfolding edit_plan check_indexed
   plan_refused path block {y} q =
-      together_refused (λ l. indexed_tree l root b i) (λ l p e. omega (arith, own_high l root b i p e))
+      together_with_card (λ l. indexed_tree l root b i) (λ l p e. omega (arith, own_high l root b i p e))
       (λ l card t. found (block_at (sees card) l path (block_of 0 root t)) >>= λ d. new_block l path d block >>= λ u. new_plan path u t) c (language_of s) seen ec
       (rw eo at (sym el ∙ q))
 
@@ -79,7 +79,7 @@ module _ (s : List ℕ) (root : ℕ) (c b i : List ℕ) {own seen low : Outcome}
 
   pub legal : {kinds : ℕ} → low ≡ Ok kinds → (n : ℕ) × Legal kinds n
   legal {kinds} h =
-      let w = lowest_accepted own seen (sym el ∙ h) in
+      let w = with_card_accepted own seen (sym el ∙ h) in
       let v = ec.holds kinds w.1 in
       (w.0.0, record { card = v.0; card_is = v.1; holds = v.2; accepted = w.0.1; owned = accepted_own s root b i (sym eo ∙ w.0.1) })
 

@@ -11,7 +11,7 @@ ghost use Rattle.tree_edit.specs.Answers.{Hands};
 ghost use Rattle.tree_edit.specs.Inner.Moving.{Replaces, Reaches, Owns, plan_in, block_in, path_in, Gives, edited};
 
 use crate::moves::{put_index, put_plan};
-use format_card::lowest::lowest;
+use format_card::lowest::with_card;
 use format_card::read::read_card;
 use outcome::{Outcome, Reason};
 use tree_block::descent::descend;
@@ -166,7 +166,7 @@ fn edit_opened(
 {
     let mut places = [0u16; INDEX];
     let owned = check_own(language, root, tree, index, &mut places);
-    let seen = lowest(owned, read_card(card))?;
+    let seen = with_card(owned, read_card(card))?;
     edit_legal(
         language, &places, root as u8, tree, index, path, seen, block, plan, plan_index,
     )

@@ -25,8 +25,8 @@ use Rattle.tree_reader.proofs.Sound.{read_done}
 use Rattle.tree_reader.proofs.Meaning.{done_of, deep_of, broken_of}
 use Rattle.format_translation.specs.Operations.{fitted}
 use Rattle.format_card.specs.Card.{Card, card_of, together}
-use Rattle.format_card.specs.Inner.Sets.{Holds, Reads, lowest_of}
-use Rattle.format_card.proofs.Refusals.{same_refusal, lowest_accepted, together_refused}
+use Rattle.format_card.specs.Inner.Sets.{Holds, Reads, with_card}
+use Rattle.format_card.proofs.Refusals.{same_refusal, with_card_accepted, together_with_card}
 use Rattle.check_operations.specs.Inner.Opening.{root_in, rooted_of, Opened}
 use Rattle.check_operations.proofs.Opening.{opened_language, tree_then}
 use Rattle.check_operations.proofs.Legal.{tree_of_lem}
@@ -105,10 +105,10 @@ pub record Legal (s : List ℕ) (root : ℕ) (c : List ℕ) (kinds : ℕ) : Type
   pub holds : Holds kinds card
 
 module _ (s : List ℕ) (root : ℕ) (c : List ℕ) {opened card low : Outcome}
-    (el : opened ≡ checked (rooted_of s root)) (ec : Reads (card_of c) card) (elow : low ≡ lowest_of opened card) where
+    (el : opened ≡ checked (rooted_of s root)) (ec : Reads (card_of c) card) (elow : low ≡ with_card opened card) where
   pub legal : {kinds : ℕ} → low ≡ Ok kinds → Legal s root c kinds
   legal {kinds} h =
-      let w = lowest_accepted opened card (sym elow ∙ h) in
+      let w = with_card_accepted opened card (sym elow ∙ h) in
       let v = ec.holds kinds w.1 in
       let o = opened_language s root el w.0.1 in
       record { language = o.0; is = o.1; card = v.0; card_is = v.1; holds = v.2 }
@@ -117,12 +117,12 @@ module _ (s : List ℕ) (root : ℕ) (c : List ℕ) {opened card low : Outcome}
     pub mask_refused : {r : Reason} → low ≡ Err r → AsMask s root c b o o (Err r)
     unfolding mask_tree mask_bytes rooted_of
     mask_refused {r} h =
-        let e : lowest_of (checked (rooted_of s root)) card ≡ Err r = rw el at (sym elow ∙ h) in
+        let e : with_card (checked (rooted_of s root)) card ≡ Err r = rw el at (sym elow ∙ h) in
         let f : Card → Language → Code → Result (List ℕ) = λ card l t. fitted (length o) (masked l card root t) in
         let same : mask_bytes s root c b (length o) ≡ together (language_of s) (card_of c) (λ l card. root_in root l >>= λ l. whole_tree (read tree l [] tree_levels root b) >>= f card l) =
         λ j. together (language_of s) (card_of c) (λ l card. tree_then root l b (f card) j) in
         gives_refused (mask_bytes s root c b (length o)) o r
-        (same ∙ together_refused (root_in root) (root_high root) (λ k card l. whole_tree (read tree l [] tree_levels root b) >>= f card l) c (language_of s) card ec e) refl
+        (same ∙ together_with_card (root_in root) (root_high root) (λ k card l. whole_tree (read tree l [] tree_levels root b) >>= f card l) c (language_of s) card ec e) refl
 
     pub mask_done : {kinds : ℕ} → low ≡ Ok kinds → (index : List ℕ) → ((l : Language) → rooted_of s root ≡ value l → Opened s index root l)
         → (o' : List ℕ) {out : Outcome} → GivesTree s index kinds root b o o' out → AsMask s root c b o o' out

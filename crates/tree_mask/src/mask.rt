@@ -6,7 +6,7 @@ ghost use Rattle.tree_mask.specs.Inner.Masking.{GivesTree, GivesLegal};
 
 use crate::walk::mask_tree;
 use check_operations::open::open_language;
-use format_card::lowest::lowest;
+use format_card::lowest::with_card;
 use format_card::read::read_card;
 use outcome::{Answer, Outcome, Reason};
 use tree_reader::index::INDEX;
@@ -64,7 +64,7 @@ fn mask_opened(language: &[u8], root: u32, card: &[u8], tree: &[u8], output: &mu
 {
     let mut index = [0u16; INDEX];
     let opened = open_language(language, root, &mut index);
-    let seen = lowest(opened, read_card(card))?;
+    let seen = with_card(opened, read_card(card))?;
     mask_read(language, &index, seen, root as u8, tree, output)
 }
 

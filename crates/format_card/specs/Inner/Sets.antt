@@ -31,8 +31,14 @@ pub record Reads (result : Result Card) (r : Outcome) : Type 0 where
   pub holds : (kinds : ℕ) → r ≡ Ok kinds → (card : Card) × (result ≡ value card) × Holds kinds card
   pub refuses : (reason : Reason) → r ≡ Err reason → result ≡ refused reason
 
--- What is read of a card where the first is accepted too; else the lowest refusal of both.
+-- The lowest of two refusals; where only one refuses, that one.
 abbrev pub lowest_of : Outcome → Outcome → Outcome
-lowest_of (Ok n) card = card
-lowest_of (Err r) (Ok kinds) = Err r
+lowest_of first (Ok n) = first
+lowest_of (Ok m) (Err s) = Err s
 lowest_of (Err r) (Err s) = Err (lower r s)
+
+-- What is read of a card where the first is accepted too; else the lowest refusal of both.
+abbrev pub with_card : Outcome → Outcome → Outcome
+with_card (Ok n) card = card
+with_card (Err r) (Ok kinds) = Err r
+with_card (Err r) (Err s) = Err (lower r s)

@@ -1,6 +1,7 @@
 -- Measuring from above: each operand has its weights, how often its runs count in the whole, and adds to one length and one
 -- cost.
 use Rattle.tree_reader.specs.declared.node.ReadError.{ReadError}
+use Rattle.tree_reader.specs.declared.node.ReadError.TheVariants.{Broken}
 use Rattle.std.specs.Prelude.{ℕ, Result, Ok, Err, zero, suc, ◌+◌, ◌*◌, ◌-◌, ◌<◌, ◌≤◌, ◌≡◌, Bool, ◌&&◌, List, [], get_or, eqb}
 use Rattle.tree_reader.specs.Inner.Positions.{node_at, past_at, KindsIn, Read}
 use Rattle.tree_reader.specs.declared.node.Syntax.TheVariants.{Tree}
@@ -80,7 +81,7 @@ Waiting s firsts lasts d =
 -- A token's row is empty.
 abbrev pub leaf_step : ℕ → ℕ → ℕ → ℕ → Read → Step
 leaf_step top total sum cost (Ok e) = row_at 0 0 e (capped top (sum + total * 2)) cost
-leaf_step top total sum cost (Err e) = Err e
+leaf_step top total sum cost (Err e) = Err Broken
 
 -- What a step comes to, where the row that it found has weights w and so many levels left.
 abbrev pub goes_on : List ℕ → List ℕ → Weighing → List ℕ → ℕ → ℕ → Weights → Step → Measured
