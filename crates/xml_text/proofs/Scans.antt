@@ -7,17 +7,12 @@ use native.Mathlib.Nat.{pow-le-pow_right, pow-suc, zero-lt-suc}
 use native.Mathlib.Omega.{arith}
 use Rattle.std.specs.Prelude.{Option, Some, None}
 use Rattle.std.proofs.lemmas.Option.{some_pair_parts}
-use lib.ListN.{length, get_or, take, drop, drop_of_length-le, length-append, length-take, length-drop}
-use Rattle.std.proofs.lemmas.List.{take-append-drop}
-use lib.Seq.{get_or-take, get_or-drop, drop-drop, take_at, take_all}
+use lib.ListN.{length, get_or, take, drop, drop_of_length-le, length-append, length-drop}
+use lib.Seq.{get_or-take, get_or-drop, drop-drop, take_at}
 use Rattle.std.proofs.Common.{Fits, w8}
-use Rattle.std.specs.Bool.{Decides}
 use Rattle.std.specs.Char.{is_ascii_digit}
-use Rattle.std.specs.Cmp.Lexicographic.{pointwise}
-use Rattle.std.proofs.lemmas.Slice.Eq.{slice_eq-Decides}
-use Rattle.std.proofs.lemmas.Bool.Decides.{Decides-eqb}
 use lib.Dec.{leb, eqb}
-use borrow.Author.Tests.{lt-leb, ne_eqb, eqb-true, eqb-false}
+use borrow.Author.Tests.{lt-leb, eq-eqb, ne_eqb, eqb-true, eqb-false}
 use Rattle.format_fields.specs.Fields.{pair_at}
 use Rattle.format_fields.proofs.Truth.{by_test}
 use Rattle.format_fields.proofs.Split.{front}
@@ -30,7 +25,7 @@ use Rattle.xml_text.specs.Text.{open_token, close_token, tag_end, token_tag}
 use Rattle.xml_text.specs.Import.{is_digit, read_word, read_digits, read_number, read_opening, read_token_tag, read_token}
 use Rattle.xml_text.specs.Inner.Scanning.{NoToken, TellsToken, begins, closes, Stands, NoNumber, Numbers, Tokens}
 use Rattle.format_fields.proofs.Decimal.{decimal_small, decimal_two, decimal_some}
-use Rattle.xml_text.proofs.Decimal.{digit_range, number_sound, word_round, word_sound}
+use Rattle.xml_text.proofs.Decimal.{digit_range, number_sound, word_sound}
 use Rattle.xml_text.proofs.Words.{word_shallow, number_shallow, tag_word, ends, opening_word}
 
 pub true_false : {A : Type 0} → true ≡ false → A
@@ -88,12 +83,7 @@ word_cut [] s h = absurd (omega arith)
 word_cut (w ∷ ws) [] h = refl
 word_cut (w ∷ ws) (b ∷ s) h = by_test (eqb b w) (λ e. let i = word_cut ws s (omega arith) in cc) (λ e. cc)
 
--- A text that is given stands there where its bytes do.
-word_taken : (w s : List ℕ) → take (length w) s ≡ w → read_word w s ≡ done tt (drop (length w) s)
-word_taken w s e =
-    let z : s ≡ w ++ drop (length w) s = sym (take-append-drop (length w) s) ∙ ap (λ (t : List ℕ). t ++ drop (length w) s) e in
-    ap (read_word w) z ∙ word_round w (drop (length w) s)
-
+-- Where other bytes stand, that text does not.
 word_other : (w s : List ℕ) → (take (length w) s ≡ w → ⊥) → read_word w s ≡ broken
 word_other w s h = go (read_word w s) refl
   where
@@ -103,22 +93,35 @@ word_other w s h = go (read_word w s) refl
     go broken e = refl
 
 -- word_at
-module _ (w text : List ℕ) (at : ℕ) {r : Bool} (er : r ≡ pointwise eqb w (take (length w) (take (length text - at) (drop at text)))) where
-  decided : Decides r (w ≡ take (length w) (drop at text))
-  decided =
-      let z : take (length text - at) (drop at text) ≡ drop at text = take_all (length text - at) (drop at text) (omega (arith, length-drop at text)) in
-      slice_eq-Decides Decides-eqb w (take (length w) (drop at text)) r (rw z at er)
+module _ (w text : List ℕ) (at : ℕ) (inside : at ≤ length text) where
+  pub word_short : length text - at < length w → Stands (read_word w (drop at text)) text (at + length w) None
+  word_short h = stands_not (word_cut w (drop at text) (omega (arith, length-drop at text)))
 
-  pub word_there : at ≤ length text → (r ≡ true → length w ≤ length (take (length text - at) (drop at text))) → r ≡ true
-      → Stands (read_word w (drop at text)) text (at + length w) (Some (at + length w))
-  word_there inside bound h =
-      let z = bound h in
-      stands_at
-      (word_taken w (drop at text) (sym (decided.0 h)) ∙ ap (done tt) (drop-drop (length w) at text))
-      (omega arith) (omega (arith, z, length-take (length text - at) (drop at text)))
+  module _ (i : ℕ) (going : read_word w (drop at text) ≡ read_word (drop i w) (drop (at + i) text)) (long : length w ≤ length text - at) where
+    module _ (more : i < length w) where
+      there : at + i < length text
+      there = omega arith
 
-  pub word_not : r ≡ false → Stands (read_word w (drop at text)) text (at + length w) None
-  word_not h = stands_not (word_other w (drop at text) (λ e. true_false (sym (decided.1 (sym e)) ∙ h)))
+      next : at + i + 1 ≡ at + (i + 1)
+      next = omega arith
+
+      pub word_differs : (get_or text (at + i) 0 ≡ get_or w i 0 → ⊥) → Stands (read_word w (drop at text)) text (at + length w) None
+      unfolding read_word
+      word_differs h =
+          let d = ne_eqb (get_or text (at + i) 0) (get_or w i 0) h in
+          stands_not (going ∙ rw (front w i more, front text (at + i) there) (cc))
+
+      pub word_again : get_or text (at + i) 0 ≡ get_or w i 0 → read_word w (drop at text) ≡ read_word (drop (i + 1) w) (drop (at + (i + 1)) text)
+      unfolding read_word
+      word_again h =
+          let d = eq-eqb (get_or text (at + i) 0) (get_or w i 0) h in
+          going ∙ rw (front w i more, front text (at + i) there, ← next) (cc)
+
+    pub word_there : i ≡ length w → Stands (read_word w (drop at text)) text (at + length w) (Some (at + length w))
+    unfolding read_word
+    word_there e =
+        let z : drop i w ≡ [] = drop_of_length-le w {i = i} (omega arith) in
+        rw (← e) (stands_at (going ∙ ap (λ (u : List ℕ). read_word u (drop (at + i) text)) z) (omega arith) (omega arith))
 
 -- A digit, as it is told.
 pub digit_is : (b : ℕ) {x : Bool} → x ≡ is_ascii_digit b → x ≡ is_digit b

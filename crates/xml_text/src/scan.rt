@@ -60,16 +60,20 @@ pub fn value_at(text: &[u8], at: usize) -> Option<(usize, usize)>
     number_before(text, at, at + DIGITS)
 }
 
-// The position behind a word, if it stands there.
+// The position behind a word, if it stands there. Words are short, so they are compared a byte at a time.
 fn word_at(word: &[u8], text: &[u8], at: usize) -> Option<usize>
     requires { at ≤ length text.now }
     ensures { Stands (read_word word.now (drop at text.now)) text.now (at + length word.now) result }
 {
-    if text[at..].starts_with(word) {
-        Some(at + word.len())
-    } else {
-        None
+    if text.len() - at < word.len() {
+        return None;
     }
+    for i in 0..word.len() {
+        if text[at + i] != word[i] {
+            return None;
+        }
+    }
+    Some(at + word.len())
 }
 
 // The beginning of an opening tag: its sign and a kind, and the byte behind the kind.
@@ -146,6 +150,6 @@ pub fn token_at(
     if !in_range(language, place, value) {
         return None;
     }
-    let end = closing_at(text, at, begun - at + 1, valued)?;
+    let end = same_at(text, at, begun - at + 1, valued)?;
     Some((value, end))
 }

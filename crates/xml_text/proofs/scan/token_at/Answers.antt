@@ -22,9 +22,9 @@ pub returns-in_err-end : goal.returns-in_err-end
 returns-in_err-end c =
     rw c.from_residual-in_err-end.ensures
     (token_third _ _ _ _ (class_high _ _ (bytes_of _ c.type_inv.language)) c.begin_at.ensures c.in_ok-begun.was c.value_at.ensures c.in_ok-value.was c.in_range.ensures c.if-not-in_range.false
-    c.closing_at.ensures c.in_err-end.was)
+    c.same_at.ensures c.in_err-end.was)
 
 pub returns : goal.returns
 returns c =
     token_done _ _ _ _ (class_high _ _ (bytes_of _ c.type_inv.language)) c.begin_at.ensures c.in_ok-begun.was c.value_at.ensures c.in_ok-value.was c.in_range.ensures c.if-not-in_range.false
-    c.closing_at.ensures c.in_ok-end.was
+    c.same_at.ensures c.in_ok-end.was
