@@ -1,8 +1,9 @@
 -- Tags as given texts: a reading that takes one text off the front, and fails where another stands there, reads that text.
-use Prim.Native.Nat.{ℕ, ◌+◌, ◌*◌, ◌-◌}
+use Prim.Native.Nat.{ℕ, ◌+◌, ◌*◌, ◌-◌, ◌<◌}
 use mathlib.Core.Path.{◌≡◌, refl, sym, ap, ◌∙◌}
 use mathlib.Core.List.{List, [], ◌∷◌, ◌++◌, append_assoc}
 use native.Mathlib.Omega.{arith}
+use lib.ListN.{length, length-append}
 use lib.Dec.{eqb}
 use Rattle.format_fields.proofs.Truth.{by_test}
 use Rattle.tree_reader.specs.Syntax.{Read, done, deep, broken, and_then}
@@ -10,6 +11,7 @@ use Rattle.format_fields.specs.Decimal.{decimal}
 use Rattle.xml_text.specs.Text.{open_node, close_node, point, tag_end, node_tag, token_tag}
 use Rattle.xml_text.specs.Import.{is_digit, read_word, read_digits, read_number, read_named, read_opening, read_closing, read_token_tag}
 use Rattle.xml_text.specs.Inner.Scanning.{begins}
+use Rattle.format_fields.proofs.Decimal.{decimal_some}
 use Rattle.xml_text.proofs.Decimal.{broken_not, then_done, word_round, word_sound, named_round, named_sound}
 use Rattle.xml_text.proofs.Round.{stop_point, closing_round, closing_sound, tag_round, tag_sound}
 
@@ -128,3 +130,20 @@ unfolding read_opening
 opening_word k s =
     sym (then_assoc (read_named open_node k s) (λ u r. read_word point r) (λ u r. ends r))
     ∙ ap (λ (q : Read (Unit {0})). and_then q λ u r. ends r) (prefix_word k s)
+
+-- A text that ends before a number does.
+pub begins_cut : {A : Type 0} (sign k end : ℕ) (s : List ℕ) (f : ℕ → List ℕ → Read A) → length s < 5
+    → (and_then (read_word (begins sign k end) s) λ u r. and_then (read_number r) f) ≡ broken
+unfolding begins read_number
+begins_cut {A} sign k end s f h = go (read_word (begins sign k end) s) refl
+  where
+    none : (r : List ℕ) → length r < 1 → and_then (read_number r) f ≡ broken
+    none [] i = refl
+    none (b ∷ r) i = absurd (omega arith)
+
+    go : (q : Read (Unit {0})) → read_word (begins sign k end) s ≡ q → (and_then q λ u r. and_then (read_number r) f) ≡ broken
+    go (done u r) e =
+        let z = ap length (word_sound (begins sign k end) s r {u = u} e) in
+        none r (omega (arith, z, length-append (begins sign k end) r, length-append (decimal k) (end ∷ []), decimal_some k))
+    go deep e = absurd (word_shallow (begins sign k end) s e)
+    go broken e = refl
