@@ -214,6 +214,14 @@ module _ (m : Tokens) (c : Range) (b : List ℕ) (at n : ℕ) (en : n ≡ token_
             let s = size_some m in
             rw d (at + n, omega arith, refl, rw (eu, ev) refl)
 
+-- A fixed token has one value, which is its first and its last.
+pub one_good : (m : Tokens) (c : Range) (b : List ℕ) (at n : ℕ) → n ≡ token_size m → m ≡ Fixed → n ≤ length b - at → (x : ℕ) → x ≡ pair_at b at → in_range c x ≡ true
+    → Says b (read_values m c (drop at b)) (Ok (bounds true (pos x) (pos x) (at + n)))
+one_good m c b at n en f h x ex p =
+    let w : n ≡ 2 = en ∙ ap token_size f in
+    let z : at + n - 2 ≡ at = omega arith in
+    pair_good m c b at n en h x x ex (ex ∙ ap (pair_at b) (sym z)) p p (omega arith) (pos x) (pos x) refl refl
+
 -- Where the loop of `node_ends` stands: i operands are read by a reading.
 pub record Going (reads : ℕ → List ℕ → Read Spread) (s : List ℕ) (place : ℕ) (b : List ℕ) (at : ℕ) (ks : List ℕ) (number : ℕ) (operands : List Ends) (within : Bool) (i to : ℕ) : Type 0 where
   pub row : List Spread

@@ -2,7 +2,7 @@
 use Rattle.std.proofs.Math.Seq.{drop-cons}
 use Rattle.std.proofs.lemmas.List.{get_or-take, get_or-drop, length-take}
 use Prim.Native.Nat.{ℕ, suc, ◌+◌, ◌*◌, ◌-◌, ◌<◌, ◌≤◌}
-use mathlib.Core.Path.{◌≡◌, sym, ap, ◌∙◌}
+use mathlib.Core.Path.{◌≡◌, refl, sym, ap, ◌∙◌}
 use mathlib.Core.Bool.{Bool, true, false, cond}
 use mathlib.Core.List.{List, [], ◌∷◌}
 use native.Mathlib.Omega.{arith}
@@ -45,6 +45,15 @@ module _ (t : List Ends) (i : ℕ) (n : AllNear t) where
 
   pub high_near : nat_abs (to_z w64 (of_z w64 (get_or t i (ends (pos 0) (pos 0))).greatest)) ≤ 1000000000
   high_near = rw high_back operand_near.greatest
+
+-- Ends that were tested are what the machine hands on of them.
+pub ends_back : (e : Ends) → Near e → ends (to_z w64 (of_z w64 e.least)) (to_z w64 (of_z w64 e.greatest)) ≡ e
+ends_back e n =
+    let h = n.least in
+    let k = n.greatest in
+    let x : to_z w64 (of_z w64 e.least) ≡ e.least = back w64 e.least (omega arith) in
+    let y : to_z w64 (of_z w64 e.greatest) ≡ e.greatest = back w64 e.greatest (omega arith) in
+    rw (x, y) refl
 
 pub factor_back : (fig : List ℤ) (i : ℕ) → Small fig → to_z w32 (of_z w32 (get_or fig i (pos 0))) ≡ get_or fig i (pos 0)
 unfolding Small

@@ -1,14 +1,14 @@
 // The walk that reads a plan and works out the two ends of its score. A fixed plan is one whose ends are equal.
-ghost use Rattle.std.specs.Prelude.{◌≡◌, List, ℕ, ◌+◌, ◌-◌, ◌<◌, ◌≤◌, length, get_or, drop, take, ℤ, pos, ◌+ℤ◌};
+ghost use Rattle.std.specs.Prelude.{◌≡◌, List, ℕ, true, ◌+◌, ◌-◌, ◌<◌, ◌≤◌, length, get_or, set, drop, take, ℤ, pos, ◌+ℤ◌};
 ghost use Rattle.std.proofs.Math.Option.{some};
 ghost use Rattle.format_language.specs.Language.{Language};
 ghost use Rattle.format_language.specs.Inner.Entries.{IsClass, class_range};
 ghost use Rattle.score_tree.specs.Linear.{Loads};
 ghost use Rattle.score_tree.specs.Inner.Kept.{Small};
-ghost use Rattle.score_tree.specs.Inner.Sums.{low, high, weighed, AllNear};
+ghost use Rattle.score_tree.specs.Inner.Sums.{ends, low, high, weighed, AllNear};
 ghost use Rattle.score_tree.specs.Inner.Terms.{World};
 ghost use Rattle.score_tree.specs.Inner.Spreads.{token_size, read_values, read_operands, read_spread};
-ghost use Rattle.score_tree.specs.Inner.Walks.{tested_at, Says, NearEnds, NearBounds, RowAsks};
+ghost use Rattle.score_tree.specs.Inner.Walks.{bounds, tested_at, Says, NearEnds, NearBounds, RowAsks};
 
 use crate::figures::{Ends, is_score, weigh};
 use crate::loaded::Loaded;
@@ -42,8 +42,24 @@ fn token_size(tokens: Tokens) -> usize
     }
 }
 
-// A token of the class whose field stands before `class`: its first value is the least, its last the greatest, and a fixed one has
-// but one value.
+// The two values of a token as ends, and where the token ends.
+fn token_bounds(least: usize, greatest: usize, end: usize) -> Bounds
+    requires { (least < 65536) × (greatest < 65536) }
+    ensures { (result ≡ bounds true (pos least) (pos greatest) end) × NearEnds result.ends }
+{
+    let ends = Ends {
+        least: least as i64,
+        greatest: greatest as i64,
+    };
+    Bounds {
+        ends: Some(ends),
+        end,
+    }
+}
+
+// A token of the class whose field stands before `class`: its first value is the least, its last the greatest. A fixed one has but
+// one value, which is read and tested once.
+#[inline(always)]
 fn token_ends(
     language: &[u8],
     class: usize,
@@ -60,28 +76,25 @@ fn token_ends(
     }
     let end = at + size;
     let least = pair_in(bytes, at);
-    let greatest = pair_in(bytes, end - 2);
     if !in_range(language, class - 1, least) {
         return Err(ReadError::Broken);
     }
+    if let Tokens::Fixed = tokens {
+        return Ok(token_bounds(least, least, end));
+    }
+    let greatest = pair_in(bytes, end - 2);
     if !in_range(language, class - 1, greatest) {
         return Err(ReadError::Broken);
     }
     if greatest < least {
         return Err(ReadError::Broken);
     }
-    let ends = Ends {
-        least: least as i64,
-        greatest: greatest as i64,
-    };
-    Ok(Bounds {
-        ends: Some(ends),
-        end,
-    })
+    Ok(token_bounds(least, greatest, end))
 }
 
 // The ends of the plan of a kind at a position, with so many levels left; a token is no level.
 #[cycle(ends_at_node_ends)]
+#[inline(always)]
 pub fn ends_at(
     loaded: &Loaded,
     tokens: Tokens,
@@ -113,9 +126,20 @@ pub fn ends_at(
     node_ends(loaded, tokens, production, bytes, at + 1, levels - 1)
 }
 
+// Puts the ends of an operand among those of its production. They are handed over one by one: a copy of both at once would wait for
+// the two writes of the call that worked them out.
+#[inline(never)]
+fn put_ends(operands: &mut [Ends], i: usize, least: i64, greatest: i64)
+    requires { i < length operands.old }
+    ensures { operands.new ≡ set operands.old i (ends least greatest) }
+{
+    operands[i] = Ends { least, greatest };
+}
+
 // The ends of the production whose field stands before `production` in the language and whose operands stand at a position.
 // An end that is out of the range is told once all is read.
 #[cycle(ends_at_node_ends)]
+#[inline(never)]
 fn node_ends(
     loaded: &Loaded,
     tokens: Tokens,
@@ -141,7 +165,7 @@ fn node_ends(
         let kind = loaded.language[first + i];
         let operand = ends_at(loaded, tokens, kind, bytes, to, levels)?;
         match operand.ends {
-            Some(ends) => operands[i] = ends,
+            Some(ends) => put_ends(&mut operands, i, ends.least, ends.greatest),
             None => within = false,
         }
         to = operand.end;

@@ -3,9 +3,9 @@ use mathlib.Core.Path.{◌≡◌, sym}
 use lib.ListN.{length, take}
 use Rattle.std.proofs.lemmas.List.{length-take}
 use Rattle.std.proofs.lemmas.Result.{err_from_is_err_and}
-use Rattle.score_tree.proofs.Weighing.{near_part}
+use Rattle.score_tree.proofs.Weighing.{near_part, ends_back}
 use native.Mathlib.Omega.{arith}
-use Rattle.score_tree.proofs.Plans.{number_is, going_begin, kind_in, going_refused, going_outside, going_next, going_out, going_end, class_said, deep_said, end_said, unknown_said, node_asked, node_said}
+use Rattle.score_tree.proofs.Plans.{near_of, number_is, going_begin, kind_in, going_refused, going_outside, going_next, going_out, going_end, class_said, deep_said, end_said, unknown_said, node_asked, node_said}
 use Rattle.score_tree.proofs.walk.+ends_at_node_ends.Goals as goal
 use Rattle.score_tree.proofs.walk.+ends_at_node_ends.Goals.{node_ends-in-Some, node_ends-in-None}
 
@@ -41,7 +41,7 @@ node_ends-loop-i-preserved t c = λ l w k p ks a.
     let v = c.loop-i.invariant l w k p ks a in
     let q : c.args.production + 4 + c.loop-i.i ≡ c.first_operand-first.result + c.loop-i.i = omega (arith, c.first_operand-first.ensures) in
     elim c.match-operand.branch [
-      | node_ends-in-Some x ↦ rw (x.operands-is, x.within-is) (going_next a _ _ c.operand_count-count.ensures v c.loop-i-test.true _ (sym q) _ (c.ends_at.ensures.is l w a.world) _ c.in_ok-operand.was _ x.in-Some.is c.ends_at.ensures.near)
+      | node_ends-in-Some x ↦ rw (x.operands-is, x.within-is, x.put_ends.ensures, ends_back _ (near_of _ _ _ c.ends_at.ensures.near c.in_ok-operand.was x.in-Some.is)) (going_next a _ _ c.operand_count-count.ensures v c.loop-i-test.true _ (sym q) _ (c.ends_at.ensures.is l w a.world) _ c.in_ok-operand.was _ x.in-Some.is c.ends_at.ensures.near)
       | node_ends-in-None x ↦ rw (x.operands-is, x.within-is) (going_outside a _ _ c.operand_count-count.ensures v c.loop-i-test.true _ (sym q) _ (c.ends_at.ensures.is l w a.world) _ c.in_ok-operand.was x.in-None.is)
     ]
 
