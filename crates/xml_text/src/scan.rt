@@ -18,6 +18,7 @@ const DIGITS: usize = 6;
 
 // The number whose first digit stands at a position, without leading zeros, and the position behind it. No digit is looked for
 // from `end` on: there the text ends, or the number would have too many.
+// Digits are counted from `at`, so that their number is known when this is compiled with a known `end - at`.
 fn number_before(text: &[u8], at: usize, end: usize) -> Option<(usize, usize)>
     requires { (at < end) × (end ≤ length text.now) × ((end ≡ length text.now) ⊎ (at + 6 ≤ end)) }
     ensures { Numbers (read_number (drop at text.now)) text.now at result }
@@ -29,11 +30,11 @@ fn number_before(text: &[u8], at: usize, end: usize) -> Option<(usize, usize)>
         return None;
     }
     let mut value = usize::from(text[at] - ZERO);
-    for to in at + 1..end {
-        if !text[to].is_ascii_digit() {
-            return Some((value, to));
+    for i in 1..end - at {
+        if !text[at + i].is_ascii_digit() {
+            return Some((value, at + i));
         }
-        value = value * 10 + usize::from(text[to] - ZERO);
+        value = value * 10 + usize::from(text[at + i] - ZERO);
         if LARGEST < value {
             return None;
         }
