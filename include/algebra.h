@@ -21,8 +21,8 @@
  *   calls these open is proved of every function that calls itself; from that and the object code
  *   follows the most that each function can use, in bytes: check_language 104, import 19,144,
  *   export 26,072, check_tree 29,336, locate 29,352, index 29,368, block 29,512, node 29,528,
- *   edit 29,736, score 44,808, score_loose 44,808, check_translation 45,064, mask 45,416,
- *   join_table 67,912, reduce 142,656, search 172,872, run 255,368.
+ *   edit 29,704, score 44,808, score_loose 44,808, check_translation 45,048, mask 45,416,
+ *   join_table 67,896, reduce 142,656, search 172,872, run 255,368.
  *
  * Nothing else is asked: every content of the inputs, every length and every root has an
  * answer, and every call ends. The library has no global state, allocates nothing, and calls
